@@ -1,0 +1,25 @@
+-- Heartbeat (key 12, versions 0 to 3): "The Messages: Heartbeat API" of the protocol guide.
+-- Each row has depth, kind, mark where it has one, first and last version; behind it stands its name.
+use Rattle.std.specs.Prelude.{pos, List, [], ◌∷◌}
+use Rattle.kp_schema.specs.declared.field.Field.{Field}
+use Rattle.kp_schema.specs.declared.kind.Kind.TheVariants.{I16, I32, Str}
+use Rattle.kp_schema.specs.declared.mark.Mark.TheVariants.{Group}
+use Rattle.kp_schema.specs.Field.{field, marked}
+use Rattle.kp_schema.specs.Message.{Message}
+
+unfoldable pub request : List Field
+request =
+    marked 0 Str Group 0 3 ∷  -- group_id
+    field 0 I32 0 3 ∷  -- generation_id
+    field 0 Str 0 3 ∷  -- member_id
+    field 0 Str 3 3 ∷  -- group_instance_id
+    []
+
+unfoldable pub response : List Field
+response =
+    field 0 I32 1 3 ∷  -- throttle_time_ms
+    field 0 I16 0 3 ∷  -- error_code
+    []
+
+abbrev pub message : Message
+message = record { key = pos 12; least = pos 0; greatest = pos 3; request = request; response = response }

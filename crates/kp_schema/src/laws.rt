@@ -1,0 +1,4 @@
+//! What holds of the whole table.
+
+/// The laws.
+pub fn table_laws() {}
