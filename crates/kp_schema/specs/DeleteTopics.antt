@@ -1,6 +1,6 @@
 -- DeleteTopics (key 20, versions 0 to 3): "The Messages: DeleteTopics API" of the protocol guide.
 -- Each row has depth, kind, mark where it has one, first and last version; behind it stands its name.
-use Rattle.std.specs.Prelude.{pos, List, [], ◌∷◌}
+use Rattle.std.specs.Prelude.{List, [], ◌∷◌}
 use Rattle.kp_schema.specs.declared.field.Field.{Field}
 use Rattle.kp_schema.specs.declared.kind.Kind.TheVariants.{I16, I32, Str, Array}
 use Rattle.kp_schema.specs.declared.mark.Mark.TheVariants.{Topic}
@@ -23,4 +23,4 @@ response =
     []
 
 abbrev pub message : Message
-message = record { key = pos 20; least = pos 0; greatest = pos 3; request = request; response = response }
+message = record { key = 20; least = 0; greatest = 3; request = request; response = response }

@@ -1,6 +1,6 @@
 -- DescribeGroups (key 15, versions 0 to 4): "The Messages: DescribeGroups API" of the protocol guide.
 -- Each row has depth, kind, mark where it has one, first and last version; behind it stands its name.
-use Rattle.std.specs.Prelude.{pos, List, [], ◌∷◌}
+use Rattle.std.specs.Prelude.{List, [], ◌∷◌}
 use Rattle.kp_schema.specs.declared.field.Field.{Field}
 use Rattle.kp_schema.specs.declared.kind.Kind.TheVariants.{I16, I32, Bool, Str, Bytes, Array}
 use Rattle.kp_schema.specs.declared.mark.Mark.TheVariants.{Group}
@@ -34,4 +34,4 @@ response =
     []
 
 abbrev pub message : Message
-message = record { key = pos 15; least = pos 0; greatest = pos 4; request = request; response = response }
+message = record { key = 15; least = 0; greatest = 4; request = request; response = response }

@@ -1,6 +1,6 @@
 -- Fetch (key 1, versions 4 to 11): "The Messages: Fetch API" of the protocol guide.
 -- Each row has depth, kind, mark where it has one, first and last version; behind it stands its name.
-use Rattle.std.specs.Prelude.{pos, List, [], ◌∷◌}
+use Rattle.std.specs.Prelude.{List, [], ◌∷◌}
 use Rattle.kp_schema.specs.declared.field.Field.{Field}
 use Rattle.kp_schema.specs.declared.kind.Kind.TheVariants.{I8, I16, I32, I64, Str, Bytes, Array}
 use Rattle.kp_schema.specs.declared.mark.Mark.TheVariants.{Topic}
@@ -52,4 +52,4 @@ response =
     []
 
 abbrev pub message : Message
-message = record { key = pos 1; least = pos 4; greatest = pos 11; request = request; response = response }
+message = record { key = 1; least = 4; greatest = 11; request = request; response = response }

@@ -1,6 +1,6 @@
 -- FindCoordinator (key 10, versions 0 to 2): "The Messages: FindCoordinator API" of the protocol guide.
 -- Each row has depth, kind, mark where it has one, first and last version; behind it stands its name.
-use Rattle.std.specs.Prelude.{pos, List, [], ◌∷◌}
+use Rattle.std.specs.Prelude.{List, [], ◌∷◌}
 use Rattle.kp_schema.specs.declared.field.Field.{Field}
 use Rattle.kp_schema.specs.declared.kind.Kind.TheVariants.{I8, I16, I32, Str}
 use Rattle.kp_schema.specs.declared.mark.Mark.TheVariants.{CoordinatorKey}
@@ -24,4 +24,4 @@ response =
     []
 
 abbrev pub message : Message
-message = record { key = pos 10; least = pos 0; greatest = pos 2; request = request; response = response }
+message = record { key = 10; least = 0; greatest = 2; request = request; response = response }

@@ -17,3 +17,4 @@ pub mod ApiVersions
 pub mod CreateTopics
 pub mod DeleteTopics
 pub mod Messages
+pub mod Laws

@@ -1,6 +1,6 @@
 -- ListGroups (key 16, versions 0 to 2): "The Messages: ListGroups API" of the protocol guide.
 -- Each row has depth, kind, mark where it has one, first and last version; behind it stands its name.
-use Rattle.std.specs.Prelude.{pos, List, [], ◌∷◌}
+use Rattle.std.specs.Prelude.{List, [], ◌∷◌}
 use Rattle.kp_schema.specs.declared.field.Field.{Field}
 use Rattle.kp_schema.specs.declared.kind.Kind.TheVariants.{I16, I32, Str, Array}
 use Rattle.kp_schema.specs.declared.mark.Mark.TheVariants.{Group}
@@ -20,4 +20,4 @@ response =
     []
 
 abbrev pub message : Message
-message = record { key = pos 16; least = pos 0; greatest = pos 2; request = request; response = response }
+message = record { key = 16; least = 0; greatest = 2; request = request; response = response }

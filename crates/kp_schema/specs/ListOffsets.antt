@@ -1,6 +1,6 @@
 -- ListOffsets (key 2, versions 1 to 5): "The Messages: ListOffsets API" of the protocol guide.
 -- Each row has depth, kind, mark where it has one, first and last version; behind it stands its name.
-use Rattle.std.specs.Prelude.{pos, List, [], ◌∷◌}
+use Rattle.std.specs.Prelude.{List, [], ◌∷◌}
 use Rattle.kp_schema.specs.declared.field.Field.{Field}
 use Rattle.kp_schema.specs.declared.kind.Kind.TheVariants.{I8, I16, I32, I64, Str, Array}
 use Rattle.kp_schema.specs.declared.mark.Mark.TheVariants.{Topic}
@@ -33,4 +33,4 @@ response =
     []
 
 abbrev pub message : Message
-message = record { key = pos 2; least = pos 1; greatest = pos 5; request = request; response = response }
+message = record { key = 2; least = 1; greatest = 5; request = request; response = response }

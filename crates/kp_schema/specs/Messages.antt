@@ -1,5 +1,6 @@
 -- The messages that are read, by rising key ("API Keys" of the protocol guide).
-use Rattle.std.specs.Prelude.{ℤ, List, [], ◌∷◌, map, find, Option, option_and_then}
+use Rattle.std.specs.Prelude.{ℤ, pos, Bool, ◌&&◌, List, [], ◌∷◌, map, find, Option, option_and_then}
+use Rattle.std.specs.List.{list_any}
 use Rattle.std.specs.Ordering.{int_eq}
 use Rattle.kp_schema.specs.declared.dir.Dir.{Dir}
 use Rattle.kp_schema.specs.declared.field.Field.{Field}
@@ -19,6 +20,7 @@ use Rattle.kp_schema.specs.OffsetCommit
 use Rattle.kp_schema.specs.OffsetFetch
 use Rattle.kp_schema.specs.Produce
 use Rattle.kp_schema.specs.SyncGroup
+use Rattle.kp_schema.specs.Field.{is_between}
 use Rattle.kp_schema.specs.Message.{Message, fields_at}
 
 abbrev pub messages : List Message
@@ -41,10 +43,21 @@ messages =
     DeleteTopics.message ∷
     []
 
--- each API with its least and greatest version
-abbrev pub supported_versions : List (ℤ × ℤ × ℤ)
-supported_versions = map (λ m. (m.key, m.least, m.greatest)) messages
+-- an API's key, least and greatest version
+abbrev pub versions_of : Message → ℤ × ℤ × ℤ
+versions_of m = (pos m.key, pos m.least, pos m.greatest)
 
--- the fields of a message by its key, where that key and version are read
+abbrev pub supported_versions : List (ℤ × ℤ × ℤ)
+supported_versions = map versions_of messages
+
+-- whether one of these APIs has that key, and that version
+abbrev pub is_one_of : List (ℤ × ℤ × ℤ) → ℤ → ℤ → Bool
+is_one_of apis key version = list_any (λ api. int_eq api.0 key && is_between api.1 api.2 version) apis
+
+-- the fields of a message by its API's key, where that key and version are read
+abbrev pub fields_among : List Message → ℤ → ℤ → Dir → Option (List Field)
+fields_among ms key version dir =
+    option_and_then (λ m. fields_at m dir version) (find (λ m. int_eq (pos m.key) key) ms)
+
 unfoldable pub fields_of : ℤ → ℤ → Dir → Option (List Field)
-fields_of key version dir = option_and_then (λ m. fields_at m dir version) (find (λ m. int_eq m.key key) messages)
+fields_of key version dir = fields_among messages key version dir

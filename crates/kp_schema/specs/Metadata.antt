@@ -1,6 +1,6 @@
 -- Metadata (key 3, versions 1 to 8): "The Messages: Metadata API" of the protocol guide.
 -- Each row has depth, kind, mark where it has one, first and last version; behind it stands its name.
-use Rattle.std.specs.Prelude.{pos, List, [], ◌∷◌}
+use Rattle.std.specs.Prelude.{List, [], ◌∷◌}
 use Rattle.kp_schema.specs.declared.field.Field.{Field}
 use Rattle.kp_schema.specs.declared.kind.Kind.TheVariants.{I16, I32, Bool, Str, Array}
 use Rattle.kp_schema.specs.declared.mark.Mark.TheVariants.{Topic}
@@ -46,4 +46,4 @@ response =
     []
 
 abbrev pub message : Message
-message = record { key = pos 3; least = pos 1; greatest = pos 8; request = request; response = response }
+message = record { key = 3; least = 1; greatest = 8; request = request; response = response }

@@ -1,6 +1,6 @@
 -- OffsetCommit (key 8, versions 2 to 7): "The Messages: OffsetCommit API" of the protocol guide.
 -- Each row has depth, kind, mark where it has one, first and last version; behind it stands its name.
-use Rattle.std.specs.Prelude.{pos, List, [], ◌∷◌}
+use Rattle.std.specs.Prelude.{List, [], ◌∷◌}
 use Rattle.kp_schema.specs.declared.field.Field.{Field}
 use Rattle.kp_schema.specs.declared.kind.Kind.TheVariants.{I16, I32, I64, Str, Array}
 use Rattle.kp_schema.specs.declared.mark.Mark.TheVariants.{Topic, Group}
@@ -34,4 +34,4 @@ response =
     []
 
 abbrev pub message : Message
-message = record { key = pos 8; least = pos 2; greatest = pos 7; request = request; response = response }
+message = record { key = 8; least = 2; greatest = 7; request = request; response = response }

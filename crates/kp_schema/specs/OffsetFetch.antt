@@ -1,6 +1,6 @@
 -- OffsetFetch (key 9, versions 1 to 5): "The Messages: OffsetFetch API" of the protocol guide.
 -- Each row has depth, kind, mark where it has one, first and last version; behind it stands its name.
-use Rattle.std.specs.Prelude.{pos, List, [], ◌∷◌}
+use Rattle.std.specs.Prelude.{List, [], ◌∷◌}
 use Rattle.kp_schema.specs.declared.field.Field.{Field}
 use Rattle.kp_schema.specs.declared.kind.Kind.TheVariants.{I16, I32, I64, Str, Array}
 use Rattle.kp_schema.specs.declared.mark.Mark.TheVariants.{Topic, Group}
@@ -31,4 +31,4 @@ response =
     []
 
 abbrev pub message : Message
-message = record { key = pos 9; least = pos 1; greatest = pos 5; request = request; response = response }
+message = record { key = 9; least = 1; greatest = 5; request = request; response = response }

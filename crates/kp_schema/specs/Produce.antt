@@ -1,6 +1,6 @@
 -- Produce (key 0, versions 3 to 8): "The Messages: Produce API" of the protocol guide.
 -- Each row has depth, kind, mark where it has one, first and last version; behind it stands its name.
-use Rattle.std.specs.Prelude.{pos, List, [], ◌∷◌}
+use Rattle.std.specs.Prelude.{List, [], ◌∷◌}
 use Rattle.kp_schema.specs.declared.field.Field.{Field}
 use Rattle.kp_schema.specs.declared.kind.Kind.TheVariants.{I16, I32, I64, Str, Bytes, Array}
 use Rattle.kp_schema.specs.declared.mark.Mark.TheVariants.{Topic, Txn}
@@ -37,4 +37,4 @@ response =
     []
 
 abbrev pub message : Message
-message = record { key = pos 0; least = pos 3; greatest = pos 8; request = request; response = response }
+message = record { key = 0; least = 3; greatest = 8; request = request; response = response }

@@ -1,0 +1,34 @@
+-- The computed tests, and what follows from them for each key and version.
+use Rattle.std.proofs.Common.{refl}
+use Rattle.kp_schema.specs.Laws.{are_nested, have_entries}
+use Rattle.kp_schema.specs.Messages.{fields_of, messages}
+use Rattle.kp_schema.proofs.Computed
+use Rattle.kp_schema.proofs.Found.{is_some-fields_among}
+use Rattle.kp_schema.proofs.Versions.{pass_fields_among}
+use Rattle.kp_schema.proofs.laws.table_laws.Goals as goal
+
+pub returns-clause-supported : goal.returns-clause-supported
+unfolding fields_of
+returns-clause-supported c = λ key version dir. is_some-fields_among messages refl key version dir
+
+pub returns-clause-versions : goal.returns-clause-versions
+returns-clause-versions c = Computed.versions
+
+pub returns-clause-marks : goal.returns-clause-marks
+returns-clause-marks c = Computed.marks
+
+pub returns-clause-nested : goal.returns-clause-nested
+returns-clause-nested c = Computed.nested
+
+pub returns-clause-entries : goal.returns-clause-entries
+returns-clause-entries c = Computed.entries
+
+pub returns-clause-nested_in_version : goal.returns-clause-nested_in_version
+unfolding fields_of
+returns-clause-nested_in_version c =
+    λ key version dir. pass_fields_among are_nested key version dir messages Computed.nested_in_version
+
+pub returns-clause-entries_in_version : goal.returns-clause-entries_in_version
+unfolding fields_of
+returns-clause-entries_in_version c =
+    λ key version dir. pass_fields_among have_entries key version dir messages Computed.entries_in_version
