@@ -1,8 +1,7 @@
--- The tests that the checker computes over every row. A new message adds its two tables here.
-use Rattle.std.proofs.Common.{◌≡◌, Bool, true, List, refl}
+-- The tests of the laws, computed over every row. A message that is added joins the `unfolding` lines.
+use Rattle.std.proofs.Common.{◌≡◌, true, refl}
 use Rattle.std.specs.List.{list_all}
-use Rattle.kp_schema.specs.declared.field.Field.{Field}
-use Rattle.kp_schema.specs.Laws.{every_row, every_table, has_versions_of, is_marked_right, are_nested, have_entries}
+use Rattle.kp_schema.specs.Laws.{InEachRow, InEachMessage, has_versions_of, is_text_if_marked, deepen_at_arrays, are_nested}
 use Rattle.kp_schema.specs.Messages.{messages}
 use Rattle.kp_schema.proofs.Versions.{pass}
 use Rattle.kp_schema.specs.Produce
@@ -22,26 +21,26 @@ use Rattle.kp_schema.specs.ApiVersions
 use Rattle.kp_schema.specs.CreateTopics
 use Rattle.kp_schema.specs.DeleteTopics
 
-pub versions : every_row has_versions_of messages ≡ true
+pub versions : InEachRow has_versions_of
 unfolding Produce.request Produce.response Fetch.request Fetch.response ListOffsets.request ListOffsets.response Metadata.request Metadata.response OffsetCommit.request OffsetCommit.response OffsetFetch.request OffsetFetch.response FindCoordinator.request FindCoordinator.response JoinGroup.request JoinGroup.response Heartbeat.request Heartbeat.response LeaveGroup.request LeaveGroup.response SyncGroup.request SyncGroup.response DescribeGroups.request DescribeGroups.response ListGroups.request ListGroups.response ApiVersions.request ApiVersions.response CreateTopics.request CreateTopics.response DeleteTopics.request DeleteTopics.response
 versions = refl
 
-pub marks : every_row is_marked_right messages ≡ true
+pub marks : InEachRow is_text_if_marked
 unfolding Produce.request Produce.response Fetch.request Fetch.response ListOffsets.request ListOffsets.response Metadata.request Metadata.response OffsetCommit.request OffsetCommit.response OffsetFetch.request OffsetFetch.response FindCoordinator.request FindCoordinator.response JoinGroup.request JoinGroup.response Heartbeat.request Heartbeat.response LeaveGroup.request LeaveGroup.response SyncGroup.request SyncGroup.response DescribeGroups.request DescribeGroups.response ListGroups.request ListGroups.response ApiVersions.request ApiVersions.response CreateTopics.request CreateTopics.response DeleteTopics.request DeleteTopics.response
 marks = refl
 
-pub nested : every_table are_nested messages ≡ true
+pub depths : InEachMessage deepen_at_arrays
+unfolding Produce.request Produce.response Fetch.request Fetch.response ListOffsets.request ListOffsets.response Metadata.request Metadata.response OffsetCommit.request OffsetCommit.response OffsetFetch.request OffsetFetch.response FindCoordinator.request FindCoordinator.response JoinGroup.request JoinGroup.response Heartbeat.request Heartbeat.response LeaveGroup.request LeaveGroup.response SyncGroup.request SyncGroup.response DescribeGroups.request DescribeGroups.response ListGroups.request ListGroups.response ApiVersions.request ApiVersions.response CreateTopics.request CreateTopics.response DeleteTopics.request DeleteTopics.response
+depths = refl
+
+pub depths_in_version : list_all (pass deepen_at_arrays) messages ≡ true
+unfolding Produce.request Produce.response Fetch.request Fetch.response ListOffsets.request ListOffsets.response Metadata.request Metadata.response OffsetCommit.request OffsetCommit.response OffsetFetch.request OffsetFetch.response FindCoordinator.request FindCoordinator.response JoinGroup.request JoinGroup.response Heartbeat.request Heartbeat.response LeaveGroup.request LeaveGroup.response SyncGroup.request SyncGroup.response DescribeGroups.request DescribeGroups.response ListGroups.request ListGroups.response ApiVersions.request ApiVersions.response CreateTopics.request CreateTopics.response DeleteTopics.request DeleteTopics.response
+depths_in_version = refl
+
+pub nested : InEachMessage are_nested
 unfolding Produce.request Produce.response Fetch.request Fetch.response ListOffsets.request ListOffsets.response Metadata.request Metadata.response OffsetCommit.request OffsetCommit.response OffsetFetch.request OffsetFetch.response FindCoordinator.request FindCoordinator.response JoinGroup.request JoinGroup.response Heartbeat.request Heartbeat.response LeaveGroup.request LeaveGroup.response SyncGroup.request SyncGroup.response DescribeGroups.request DescribeGroups.response ListGroups.request ListGroups.response ApiVersions.request ApiVersions.response CreateTopics.request CreateTopics.response DeleteTopics.request DeleteTopics.response
 nested = refl
-
-pub entries : every_table have_entries messages ≡ true
-unfolding Produce.request Produce.response Fetch.request Fetch.response ListOffsets.request ListOffsets.response Metadata.request Metadata.response OffsetCommit.request OffsetCommit.response OffsetFetch.request OffsetFetch.response FindCoordinator.request FindCoordinator.response JoinGroup.request JoinGroup.response Heartbeat.request Heartbeat.response LeaveGroup.request LeaveGroup.response SyncGroup.request SyncGroup.response DescribeGroups.request DescribeGroups.response ListGroups.request ListGroups.response ApiVersions.request ApiVersions.response CreateTopics.request CreateTopics.response DeleteTopics.request DeleteTopics.response
-entries = refl
 
 pub nested_in_version : list_all (pass are_nested) messages ≡ true
 unfolding Produce.request Produce.response Fetch.request Fetch.response ListOffsets.request ListOffsets.response Metadata.request Metadata.response OffsetCommit.request OffsetCommit.response OffsetFetch.request OffsetFetch.response FindCoordinator.request FindCoordinator.response JoinGroup.request JoinGroup.response Heartbeat.request Heartbeat.response LeaveGroup.request LeaveGroup.response SyncGroup.request SyncGroup.response DescribeGroups.request DescribeGroups.response ListGroups.request ListGroups.response ApiVersions.request ApiVersions.response CreateTopics.request CreateTopics.response DeleteTopics.request DeleteTopics.response
 nested_in_version = refl
-
-pub entries_in_version : list_all (pass have_entries) messages ≡ true
-unfolding Produce.request Produce.response Fetch.request Fetch.response ListOffsets.request ListOffsets.response Metadata.request Metadata.response OffsetCommit.request OffsetCommit.response OffsetFetch.request OffsetFetch.response FindCoordinator.request FindCoordinator.response JoinGroup.request JoinGroup.response Heartbeat.request Heartbeat.response LeaveGroup.request LeaveGroup.response SyncGroup.request SyncGroup.response DescribeGroups.request DescribeGroups.response ListGroups.request ListGroups.response ApiVersions.request ApiVersions.response CreateTopics.request CreateTopics.response DeleteTopics.request DeleteTopics.response
-entries_in_version = refl

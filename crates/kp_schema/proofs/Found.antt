@@ -43,9 +43,9 @@ pub is_some-fields_among : (ms : List Message) → are_rising ms ≡ true → (k
 is_some-fields_among [] h key version dir = refl
 is_some-fields_among (m ∷ ms) h key version dir =
     cond_both (int_eq (pos m.key) key) _ _
-        (λ o. is_some (option_and_then (λ n. fields_at n dir version) o) ≡ is_one_of (map versions_of (m ∷ ms)) key version)
-        (λ e. is_some-cond (is_read m version) _ ∙ at_first _ _ _ e (none_later m.key key version ms rising.0 e))
-        (λ e. is_some-fields_among ms rising.1 key version dir ∙ past_first _ (is_read m version) _ e)
+    (λ o. is_some (option_and_then (λ n. fields_at n dir version) o) ≡ is_one_of (map versions_of (m ∷ ms)) key version)
+    (λ e. is_some-cond (is_read m version) _ ∙ at_first _ _ _ e (none_later m.key key version ms rising.0 e))
+    (λ e. is_some-fields_among ms rising.1 key version dir ∙ past_first _ (is_read m version) _ e)
   where
     rising : (list_all (λ n. nat_lt m.key n.key) ms ≡ true) × (are_rising ms ≡ true)
     rising = and_parts (list_all (λ n. nat_lt m.key n.key) ms) (are_rising ms) h

@@ -27,10 +27,13 @@ in_version test m h v dir read = direction test m (pos v) dir (here (or_cases (n
   where
     least : m.least ≤ v
     least = leb-true m.least v (and_parts (nat_le m.least v) (nat_le v m.greatest) read).0
+
     greatest : v ≤ m.greatest
     greatest = leb-true v m.greatest (and_parts (nat_le m.least v) (nat_le v m.greatest) read).1
+
     passed : pass_at test m v ≡ true
     passed = agree_below_at (pass_at test m) (λ _. true) (m.greatest + 1) v h (omega (arith, greatest))
+
     here : {P : Type 0} → (nat_lt v m.least ≡ true) ⊎ P → P
     here (inl early) = absurd (omega (arith, least, ltb-true v m.least early))
     here (inr p) = p
@@ -44,5 +47,5 @@ pub pass_fields_among : (test : List Field → Bool) (key version : ℤ) (dir : 
 pass_fields_among test key version dir [] h = search rules
 pass_fields_among test key version dir (m ∷ ms) h =
     cond_both (int_eq (pos m.key) key) _ _ (λ o. IfSome (option_and_then (λ n. fields_at n dir version) o) (λ fs. IsTrue (test fs)))
-        (λ _. pass_fields_at test m (and_parts _ _ h).0 dir version)
-        (λ _. pass_fields_among test key version dir ms (and_parts _ _ h).1)
+    (λ _. pass_fields_at test m (and_parts _ _ h).0 dir version)
+    (λ _. pass_fields_among test key version dir ms (and_parts _ _ h).1)

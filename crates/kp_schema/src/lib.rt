@@ -28,6 +28,8 @@ mod lookup;
 mod mark;
 mod messages;
 mod table;
+#[cfg(test)]
+mod tests;
 
 pub use dir::Dir;
 pub use field::Field;

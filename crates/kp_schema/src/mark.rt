@@ -1,9 +1,9 @@
 //! What a text names.
 
-/// What a field's text names in the cluster. Every field that isn't a text is plain.
+/// What a field's text names in the cluster. A field that isn't a text is plain.
 #[derive(Clone, Copy, Debug, PartialEq, Eq)]
 pub enum Mark {
-    /// Nothing that belongs to one client alone.
+    /// None of the following.
     Plain,
     /// A topic.
     Topic,

@@ -1,4 +1,4 @@
-//! One file for each API, in the order of the keys: its request and its response.
+//! One file for each API, with its request and its response.
 
 pub(crate) mod api_versions;
 pub(crate) mod create_topics;

@@ -1,4 +1,4 @@
-//! ApiVersions.
+//! ApiVersions (key 18): "The Messages: ApiVersions API" of the protocol guide.
 ghost use Rattle.std.specs.Prelude.{◌≡◌, option_copied};
 ghost use Rattle.kp_schema.specs.Message.{fields_at};
 ghost use Rattle.kp_schema.specs.ApiVersions.{message};

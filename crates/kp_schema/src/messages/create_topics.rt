@@ -1,4 +1,4 @@
-//! CreateTopics.
+//! CreateTopics (key 19): "The Messages: CreateTopics API" of the protocol guide.
 ghost use Rattle.std.specs.Prelude.{◌≡◌, option_copied};
 ghost use Rattle.kp_schema.specs.Message.{fields_at};
 ghost use Rattle.kp_schema.specs.CreateTopics.{message};

@@ -1,4 +1,4 @@
-//! DeleteTopics.
+//! DeleteTopics (key 20): "The Messages: DeleteTopics API" of the protocol guide.
 ghost use Rattle.std.specs.Prelude.{◌≡◌, option_copied};
 ghost use Rattle.kp_schema.specs.Message.{fields_at};
 ghost use Rattle.kp_schema.specs.DeleteTopics.{message};

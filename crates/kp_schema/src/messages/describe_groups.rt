@@ -1,4 +1,4 @@
-//! DescribeGroups.
+//! DescribeGroups (key 15): "The Messages: DescribeGroups API" of the protocol guide.
 ghost use Rattle.std.specs.Prelude.{◌≡◌, option_copied};
 ghost use Rattle.kp_schema.specs.Message.{fields_at};
 ghost use Rattle.kp_schema.specs.DescribeGroups.{message};

@@ -1,4 +1,4 @@
-//! Fetch.
+//! Fetch (key 1): "The Messages: Fetch API" of the protocol guide.
 ghost use Rattle.std.specs.Prelude.{◌≡◌, option_copied};
 ghost use Rattle.kp_schema.specs.Message.{fields_at};
 ghost use Rattle.kp_schema.specs.Fetch.{message};

@@ -1,4 +1,4 @@
-//! FindCoordinator.
+//! FindCoordinator (key 10): "The Messages: FindCoordinator API" of the protocol guide.
 ghost use Rattle.std.specs.Prelude.{◌≡◌, option_copied};
 ghost use Rattle.kp_schema.specs.Message.{fields_at};
 ghost use Rattle.kp_schema.specs.FindCoordinator.{message};

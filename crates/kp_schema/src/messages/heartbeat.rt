@@ -1,4 +1,4 @@
-//! Heartbeat.
+//! Heartbeat (key 12): "The Messages: Heartbeat API" of the protocol guide.
 ghost use Rattle.std.specs.Prelude.{◌≡◌, option_copied};
 ghost use Rattle.kp_schema.specs.Message.{fields_at};
 ghost use Rattle.kp_schema.specs.Heartbeat.{message};

@@ -1,4 +1,4 @@
-//! JoinGroup.
+//! JoinGroup (key 11): "The Messages: JoinGroup API" of the protocol guide.
 ghost use Rattle.std.specs.Prelude.{◌≡◌, option_copied};
 ghost use Rattle.kp_schema.specs.Message.{fields_at};
 ghost use Rattle.kp_schema.specs.JoinGroup.{message};

@@ -1,4 +1,4 @@
-//! LeaveGroup.
+//! LeaveGroup (key 13): "The Messages: LeaveGroup API" of the protocol guide.
 ghost use Rattle.std.specs.Prelude.{◌≡◌, option_copied};
 ghost use Rattle.kp_schema.specs.Message.{fields_at};
 ghost use Rattle.kp_schema.specs.LeaveGroup.{message};

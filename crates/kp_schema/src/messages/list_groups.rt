@@ -1,4 +1,4 @@
-//! ListGroups.
+//! ListGroups (key 16): "The Messages: ListGroups API" of the protocol guide.
 ghost use Rattle.std.specs.Prelude.{◌≡◌, option_copied};
 ghost use Rattle.kp_schema.specs.Message.{fields_at};
 ghost use Rattle.kp_schema.specs.ListGroups.{message};

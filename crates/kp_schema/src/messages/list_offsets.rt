@@ -1,4 +1,4 @@
-//! ListOffsets.
+//! ListOffsets (key 2): "The Messages: ListOffsets API" of the protocol guide.
 ghost use Rattle.std.specs.Prelude.{◌≡◌, option_copied};
 ghost use Rattle.kp_schema.specs.Message.{fields_at};
 ghost use Rattle.kp_schema.specs.ListOffsets.{message};

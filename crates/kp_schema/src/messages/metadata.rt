@@ -1,4 +1,4 @@
-//! Metadata.
+//! Metadata (key 3): "The Messages: Metadata API" of the protocol guide.
 ghost use Rattle.std.specs.Prelude.{◌≡◌, option_copied};
 ghost use Rattle.kp_schema.specs.Message.{fields_at};
 ghost use Rattle.kp_schema.specs.Metadata.{message};

@@ -1,4 +1,4 @@
-//! OffsetCommit.
+//! OffsetCommit (key 8): "The Messages: OffsetCommit API" of the protocol guide.
 ghost use Rattle.std.specs.Prelude.{◌≡◌, option_copied};
 ghost use Rattle.kp_schema.specs.Message.{fields_at};
 ghost use Rattle.kp_schema.specs.OffsetCommit.{message};

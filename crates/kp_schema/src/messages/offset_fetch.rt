@@ -1,4 +1,4 @@
-//! OffsetFetch.
+//! OffsetFetch (key 9): "The Messages: OffsetFetch API" of the protocol guide.
 ghost use Rattle.std.specs.Prelude.{◌≡◌, option_copied};
 ghost use Rattle.kp_schema.specs.Message.{fields_at};
 ghost use Rattle.kp_schema.specs.OffsetFetch.{message};

@@ -1,4 +1,4 @@
-//! Produce.
+//! Produce (key 0): "The Messages: Produce API" of the protocol guide.
 ghost use Rattle.std.specs.Prelude.{◌≡◌, option_copied};
 ghost use Rattle.kp_schema.specs.Message.{fields_at};
 ghost use Rattle.kp_schema.specs.Produce.{message};

@@ -1,4 +1,4 @@
-//! SyncGroup.
+//! SyncGroup (key 14): "The Messages: SyncGroup API" of the protocol guide.
 ghost use Rattle.std.specs.Prelude.{◌≡◌, option_copied};
 ghost use Rattle.kp_schema.specs.Message.{fields_at};
 ghost use Rattle.kp_schema.specs.SyncGroup.{message};

@@ -1,6 +1,6 @@
 -- The computed tests, and what follows from them for each key and version.
 use Rattle.std.proofs.Common.{refl}
-use Rattle.kp_schema.specs.Laws.{are_nested, have_entries}
+use Rattle.kp_schema.specs.Laws.{are_nested, deepen_at_arrays}
 use Rattle.kp_schema.specs.Messages.{fields_of, messages}
 use Rattle.kp_schema.proofs.Computed
 use Rattle.kp_schema.proofs.Found.{is_some-fields_among}
@@ -20,15 +20,15 @@ returns-clause-marks c = Computed.marks
 pub returns-clause-nested : goal.returns-clause-nested
 returns-clause-nested c = Computed.nested
 
-pub returns-clause-entries : goal.returns-clause-entries
-returns-clause-entries c = Computed.entries
+pub returns-clause-depths : goal.returns-clause-depths
+returns-clause-depths c = Computed.depths
 
 pub returns-clause-nested_in_version : goal.returns-clause-nested_in_version
 unfolding fields_of
 returns-clause-nested_in_version c =
     λ key version dir. pass_fields_among are_nested key version dir messages Computed.nested_in_version
 
-pub returns-clause-entries_in_version : goal.returns-clause-entries_in_version
+pub returns-clause-depths_in_version : goal.returns-clause-depths_in_version
 unfolding fields_of
-returns-clause-entries_in_version c =
-    λ key version dir. pass_fields_among have_entries key version dir messages Computed.entries_in_version
+returns-clause-depths_in_version c =
+    λ key version dir. pass_fields_among deepen_at_arrays key version dir messages Computed.depths_in_version
