@@ -202,6 +202,16 @@ KINDS = {
 }
 
 
+# What is known of the places where the package differs, after its own source and the guide.
+KNOWN = {
+    ("Produce response", 8): "its brackets close too early: record_errors and error_message are lost (KIP-467)",
+    ("ListOffsets request", 4): "it has current_leader_epoch as INT64; the guide has INT32 (KIP-320)",
+    ("ListOffsets request", 5): "as in version 4",
+    ("FindCoordinator response", 1): "it lacks throttle_time_ms, which the guide has from version 1 on",
+    ("DescribeGroups response", 3): "its brackets close too early: authorized_operations is lost (KIP-430)",
+}
+
+
 def python_fields(field, name, depth):
     """Depth, kind and name of a field and of what lies in it."""
     kind = field.__name__ if isinstance(field, type) else type(field).__name__
@@ -250,11 +260,12 @@ def compare():
                 if [row[:2] for row in ours] == [row[:2] for row in theirs]:
                     same += 1
                 else:
-                    others.append((f"{where}, version {version}", ours, theirs))
+                    others.append((where, version, ours, theirs))
     print(f"{same} messages have the same kinds at the same depths, in the same order.")
     print(f"{len(others)} differ:")
-    for where, ours, theirs in others:
-        print(f"  {where}")
+    for where, version, ours, theirs in others:
+        known = KNOWN.get((where, version))
+        print(f"  {where}, version {version}" + (f" (known: {known})" if known else ""))
         for title, rows in (("here", ours), ("there", theirs)):
             print(f"    {title}: " + ", ".join(f"{'.' * depth}{name} {kind}" for depth, kind, name in rows))
     print("Not compared, since the package has no such version:")

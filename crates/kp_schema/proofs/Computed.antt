@@ -1,4 +1,4 @@
--- The tests of the laws, computed over every row. A message that is added joins the `unfolding` lines.
+-- The tests of the laws, computed over every row. A message that is added joins the `unfolding` line.
 use Rattle.std.proofs.Common.{◌≡◌, true, refl}
 use Rattle.std.specs.List.{list_all}
 use Rattle.kp_schema.specs.Laws.{InEachRow, InEachMessage, has_versions_of, is_text_if_marked, deepen_at_arrays, are_nested}
@@ -21,26 +21,37 @@ use Rattle.kp_schema.specs.ApiVersions
 use Rattle.kp_schema.specs.CreateTopics
 use Rattle.kp_schema.specs.DeleteTopics
 
-pub versions : InEachRow has_versions_of
-unfolding Produce.request Produce.response Fetch.request Fetch.response ListOffsets.request ListOffsets.response Metadata.request Metadata.response OffsetCommit.request OffsetCommit.response OffsetFetch.request OffsetFetch.response FindCoordinator.request FindCoordinator.response JoinGroup.request JoinGroup.response Heartbeat.request Heartbeat.response LeaveGroup.request LeaveGroup.response SyncGroup.request SyncGroup.response DescribeGroups.request DescribeGroups.response ListGroups.request ListGroups.response ApiVersions.request ApiVersions.response CreateTopics.request CreateTopics.response DeleteTopics.request DeleteTopics.response
-versions = refl
+pub record PassesAll : Type 0 where
+  pub versions : InEachRow has_versions_of
+  pub marks : InEachRow is_text_if_marked
+  pub depths : InEachMessage deepen_at_arrays
+  pub depths_in_version : list_all (pass deepen_at_arrays) messages ≡ true
+  pub nested : InEachMessage are_nested
+  pub nested_in_version : list_all (pass are_nested) messages ≡ true
 
-pub marks : InEachRow is_text_if_marked
-unfolding Produce.request Produce.response Fetch.request Fetch.response ListOffsets.request ListOffsets.response Metadata.request Metadata.response OffsetCommit.request OffsetCommit.response OffsetFetch.request OffsetFetch.response FindCoordinator.request FindCoordinator.response JoinGroup.request JoinGroup.response Heartbeat.request Heartbeat.response LeaveGroup.request LeaveGroup.response SyncGroup.request SyncGroup.response DescribeGroups.request DescribeGroups.response ListGroups.request ListGroups.response ApiVersions.request ApiVersions.response CreateTopics.request CreateTopics.response DeleteTopics.request DeleteTopics.response
-marks = refl
-
-pub depths : InEachMessage deepen_at_arrays
-unfolding Produce.request Produce.response Fetch.request Fetch.response ListOffsets.request ListOffsets.response Metadata.request Metadata.response OffsetCommit.request OffsetCommit.response OffsetFetch.request OffsetFetch.response FindCoordinator.request FindCoordinator.response JoinGroup.request JoinGroup.response Heartbeat.request Heartbeat.response LeaveGroup.request LeaveGroup.response SyncGroup.request SyncGroup.response DescribeGroups.request DescribeGroups.response ListGroups.request ListGroups.response ApiVersions.request ApiVersions.response CreateTopics.request CreateTopics.response DeleteTopics.request DeleteTopics.response
-depths = refl
-
-pub depths_in_version : list_all (pass deepen_at_arrays) messages ≡ true
-unfolding Produce.request Produce.response Fetch.request Fetch.response ListOffsets.request ListOffsets.response Metadata.request Metadata.response OffsetCommit.request OffsetCommit.response OffsetFetch.request OffsetFetch.response FindCoordinator.request FindCoordinator.response JoinGroup.request JoinGroup.response Heartbeat.request Heartbeat.response LeaveGroup.request LeaveGroup.response SyncGroup.request SyncGroup.response DescribeGroups.request DescribeGroups.response ListGroups.request ListGroups.response ApiVersions.request ApiVersions.response CreateTopics.request CreateTopics.response DeleteTopics.request DeleteTopics.response
-depths_in_version = refl
-
-pub nested : InEachMessage are_nested
-unfolding Produce.request Produce.response Fetch.request Fetch.response ListOffsets.request ListOffsets.response Metadata.request Metadata.response OffsetCommit.request OffsetCommit.response OffsetFetch.request OffsetFetch.response FindCoordinator.request FindCoordinator.response JoinGroup.request JoinGroup.response Heartbeat.request Heartbeat.response LeaveGroup.request LeaveGroup.response SyncGroup.request SyncGroup.response DescribeGroups.request DescribeGroups.response ListGroups.request ListGroups.response ApiVersions.request ApiVersions.response CreateTopics.request CreateTopics.response DeleteTopics.request DeleteTopics.response
-nested = refl
-
-pub nested_in_version : list_all (pass are_nested) messages ≡ true
-unfolding Produce.request Produce.response Fetch.request Fetch.response ListOffsets.request ListOffsets.response Metadata.request Metadata.response OffsetCommit.request OffsetCommit.response OffsetFetch.request OffsetFetch.response FindCoordinator.request FindCoordinator.response JoinGroup.request JoinGroup.response Heartbeat.request Heartbeat.response LeaveGroup.request LeaveGroup.response SyncGroup.request SyncGroup.response DescribeGroups.request DescribeGroups.response ListGroups.request ListGroups.response ApiVersions.request ApiVersions.response CreateTopics.request CreateTopics.response DeleteTopics.request DeleteTopics.response
-nested_in_version = refl
+pub computed : PassesAll
+unfolding messages
+    Produce.request Produce.response
+    Fetch.request Fetch.response
+    ListOffsets.request ListOffsets.response
+    Metadata.request Metadata.response
+    OffsetCommit.request OffsetCommit.response
+    OffsetFetch.request OffsetFetch.response
+    FindCoordinator.request FindCoordinator.response
+    JoinGroup.request JoinGroup.response
+    Heartbeat.request Heartbeat.response
+    LeaveGroup.request LeaveGroup.response
+    SyncGroup.request SyncGroup.response
+    DescribeGroups.request DescribeGroups.response
+    ListGroups.request ListGroups.response
+    ApiVersions.request ApiVersions.response
+    CreateTopics.request CreateTopics.response
+    DeleteTopics.request DeleteTopics.response
+computed = record {
+  versions = refl;
+  marks = refl;
+  depths = refl;
+  depths_in_version = refl;
+  nested = refl;
+  nested_in_version = refl;
+}

@@ -1,13 +1,14 @@
 -- Where keys rise, a look-up by key finds fields exactly where the list of versions has key and version.
-use Rattle.std.proofs.Common.{◌≡◌, ℕ, ◌<◌, Bool, true, false, cond, ◌&&◌, ◌||◌, List, [], ◌∷◌, map, find, is_some, ℤ, pos, nat_lt, option_and_then, arith, refl, sym, ◌∙◌, Some, None}
-use Rattle.std.specs.List.{list_all, list_any}
+use Rattle.std.proofs.Common.{◌≡◌, ℕ, ◌<◌, Bool, true, false, cond, ◌&&◌, ◌||◌, List, [], ◌∷◌, map, is_some, ℤ, pos, nat_lt, option_and_then, arith, refl, sym, ◌∙◌, Some, None, Option, option_copied, Bor, ap}
+use Rattle.std.specs.List.{list_all}
 use Rattle.std.specs.Ordering.{int_eq}
 use Rattle.std.proofs.lemmas.Bool.{and_parts, cond_both, ltb-true, false_from_ne_true}
 use Rattle.std.proofs.lemmas.Bool.Decides.{Decides-int_eq}
 use Rattle.kp_schema.specs.declared.dir.Dir.{Dir}
+use Rattle.kp_schema.specs.declared.field.Field.{Field}
 use Rattle.kp_schema.specs.Laws.{are_rising}
 use Rattle.kp_schema.specs.Message.{Message, is_read, fields_at}
-use Rattle.kp_schema.specs.Messages.{fields_among, is_one_of, versions_of}
+use Rattle.kp_schema.specs.Messages.{messages, supported_versions, fields_among, fields_of, is_one_of, is_supported, versions_of}
 
 -- another key is not this one
 later_key : (k n : ℕ) (key : ℤ) → k < n → int_eq (pos k) key ≡ true → int_eq (pos n) key ≡ false
@@ -39,7 +40,7 @@ past_first : (b w r : Bool) → b ≡ false → r ≡ (b && w || r)
 past_first true w r e = cc
 past_first false w r e = refl
 
-pub is_some-fields_among : (ms : List Message) → are_rising ms ≡ true → (key version : ℤ) (dir : Dir) → is_some (fields_among ms key version dir) ≡ is_one_of (map versions_of ms) key version
+is_some-fields_among : (ms : List Message) → are_rising ms ≡ true → (key version : ℤ) (dir : Dir) → is_some (fields_among ms key version dir) ≡ is_one_of (map versions_of ms) key version
 is_some-fields_among [] h key version dir = refl
 is_some-fields_among (m ∷ ms) h key version dir =
     cond_both (int_eq (pos m.key) key) _ _
@@ -49,3 +50,15 @@ is_some-fields_among (m ∷ ms) h key version dir =
   where
     rising : (list_all (λ n. nat_lt m.key n.key) ms ≡ true) × (are_rising ms ≡ true)
     rising = and_parts (list_all (λ n. nat_lt m.key n.key) ms) (are_rising ms) h
+
+pub is_some-fields_of : (key version : ℤ) (dir : Dir) → is_some (fields_of key version dir) ≡ is_supported key version
+unfolding messages fields_of is_supported supported_versions
+is_some-fields_of key version dir = is_some-fields_among messages refl key version dir
+
+is_some-copied : {T : Type 0} (o : Option (Bor T)) → is_some o ≡ is_some (option_copied o)
+is_some-copied None = refl
+is_some-copied (Some x) = refl
+
+-- a reference to the fields is there exactly where they are
+pub is_some-found : (o : Option (Bor (List Field))) (key version : ℤ) (dir : Dir) → option_copied o ≡ fields_of key version dir → is_some o ≡ is_supported key version
+is_some-found o key version dir e = is_some-copied o ∙ ap is_some e ∙ is_some-fields_of key version dir

@@ -1,5 +1,5 @@
 -- A test that the tables pass in each of their versions is passed by all that `fields_of` gives.
-use Rattle.std.proofs.Common.{◌≡◌, ℕ, ◌+◌, ◌<◌, ◌≤◌, ◌⊎◌, Bool, true, false, cond, ◌&&◌, ◌||◌, List, [], ◌∷◌, filter, find, Option, None, IfSome, IsTrue, ℤ, pos, negsuc, nat_lt, nat_le, option_and_then, arith, refl, inl, inr, rules}
+use Rattle.std.proofs.Common.{◌≡◌, ℕ, ◌+◌, ◌≤◌, ◌⊎◌, Bool, true, ◌&&◌, ◌||◌, List, [], ◌∷◌, filter, IfSome, IsTrue, ℤ, pos, negsuc, nat_lt, nat_le, option_and_then, arith, inl, inr, rules}
 use Rattle.std.specs.List.{list_all}
 use Rattle.std.specs.Ordering.{int_eq}
 use Rattle.std.proofs.lemmas.Bool.{agree_below, agree_below_at, and_parts, or_cases, cond_both, leb-true, ltb-true}

@@ -23,7 +23,7 @@ use Rattle.kp_schema.specs.SyncGroup
 use Rattle.kp_schema.specs.Field.{is_between}
 use Rattle.kp_schema.specs.Message.{Message, fields_at}
 
-abbrev pub messages : List Message
+unfoldable pub messages : List Message
 messages =
     Produce.message ∷
     Fetch.message ∷
@@ -47,12 +47,16 @@ messages =
 abbrev pub versions_of : Message → ℤ × ℤ × ℤ
 versions_of m = (pos m.key, pos m.least, pos m.greatest)
 
-abbrev pub supported_versions : List (ℤ × ℤ × ℤ)
+unfoldable pub supported_versions : List (ℤ × ℤ × ℤ)
 supported_versions = map versions_of messages
 
 -- whether one of these APIs has that key, and that version
 abbrev pub is_one_of : List (ℤ × ℤ × ℤ) → ℤ → ℤ → Bool
 is_one_of apis key version = list_any (λ api. int_eq api.0 key && is_between api.1 api.2 version) apis
+
+-- whether that version of the API with that key is read
+unfoldable pub is_supported : ℤ → ℤ → Bool
+is_supported key version = is_one_of supported_versions key version
 
 -- the fields of a message by its API's key, where that key and version are read
 abbrev pub fields_among : List Message → ℤ → ℤ → Dir → Option (List Field)

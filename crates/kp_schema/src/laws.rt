@@ -1,7 +1,7 @@
 //! What holds of the whole table.
 ghost use Rattle.std.specs.Prelude.{◌≡◌, ℤ, pos, IsTrue, is_some};
 ghost use Rattle.kp_schema.specs.Laws.{are_nested, are_rising, deepen_at_arrays, has_versions_of, InEachMessage, InEachRow, InEachVersion, is_text_if_marked};
-ghost use Rattle.kp_schema.specs.Messages.{fields_of, is_one_of, messages, supported_versions};
+ghost use Rattle.kp_schema.specs.Messages.{fields_of, is_supported, messages};
 ghost use Rattle.kp_schema.specs.declared.dir.Dir.{Dir};
 
 /// The laws of the table. A call does nothing but give them to its caller's proof.
@@ -11,8 +11,8 @@ pub fn table_laws()
     // broker answers a client whose version it doesn't know (KIP-511).
     ensures keys_rise { IsTrue (are_rising messages) }
     ensures supported { (key version : ℤ) (dir : Dir) →
-        is_some (fields_of key version dir) ≡ is_one_of supported_versions key version }
-    ensures api_versions { IsTrue (is_one_of supported_versions (pos 18) (pos 0)) }
+        is_some (fields_of key version dir) ≡ is_supported key version }
+    ensures api_versions { IsTrue (is_supported (pos 18) (pos 0)) }
 
     // A row keeps to the versions of its message, and marks stand on texts.
     ensures versions { InEachRow has_versions_of }

@@ -1,6 +1,6 @@
 //! The table by key, version and direction.
-ghost use Rattle.std.specs.Prelude.{◌≡◌, option_copied};
-ghost use Rattle.kp_schema.specs.Messages.{fields_of, supported_versions};
+ghost use Rattle.std.specs.Prelude.{◌≡◌, is_some, option_copied};
+ghost use Rattle.kp_schema.specs.Messages.{fields_of, is_supported, supported_versions};
 
 use crate::dir::Dir;
 use crate::field::Field;
@@ -31,6 +31,7 @@ static SUPPORTED: [(i16, i16, i16); 16] = [
 
 /// The APIs that are read, with their least and their greatest version, as a broker lists them in
 /// its answer to ApiVersions ("API Keys").
+#[tactic(auto, unfolding(crate::specs::Messages::messages, crate::specs::Messages::supported_versions))]
 pub fn supported() -> &'static [(i16, i16, i16)]
     ensures { result.now ≡ supported_versions }
 {
@@ -40,7 +41,8 @@ pub fn supported() -> &'static [(i16, i16, i16)]
 /// The fields of a message of this API and version, in the order in which they are sent, or `None`
 /// where the API or the version isn't one of those that are read.
 pub fn fields(key: i16, version: i16, dir: Dir) -> Option<&'static [Field]>
-    ensures { option_copied result ≡ fields_of key version dir }
+    ensures fields { option_copied result ≡ fields_of key version dir }
+    ensures supported { is_some result ≡ is_supported key version }
 {
     match dir {
         Dir::Request => request(key, version),
@@ -48,7 +50,7 @@ pub fn fields(key: i16, version: i16, dir: Dir) -> Option<&'static [Field]>
     }
 }
 
-#[tactic(auto, unfolding(crate::specs::Messages::fields_of))]
+#[tactic(auto, unfolding(crate::specs::Messages::messages, crate::specs::Messages::fields_of))]
 fn request(key: i16, version: i16) -> Option<&'static [Field]>
     ensures { option_copied result ≡ fields_of key version Dir.Request }
 {
@@ -73,7 +75,7 @@ fn request(key: i16, version: i16) -> Option<&'static [Field]>
     }
 }
 
-#[tactic(auto, unfolding(crate::specs::Messages::fields_of))]
+#[tactic(auto, unfolding(crate::specs::Messages::messages, crate::specs::Messages::fields_of))]
 fn response(key: i16, version: i16) -> Option<&'static [Field]>
     ensures { option_copied result ≡ fields_of key version Dir.Response }
 {
