@@ -1,4 +1,8 @@
-use Rattle.std.specs.Prelude.{◌≡◌, ℕ, ◌-◌, ◌^◌, ◌<◌, ◌≤◌, ◌⊎◌, Result, IsErr}
+use Rattle.std.specs.Prelude.{◌≡◌, ℕ, ◌+◌, ◌-◌, ◌^◌, ◌<◌, ◌≤◌, ◌⊎◌, min, Result, IsErr}
+
+-- the next number of a count of 64 bits, which stands still at the greatest
+abbrev pub raised : ℕ → ℕ
+raised count = min (count + 1) (2 ^ 64 - 1)
 
 -- a count went up, or it stands at the greatest number that 64 bits hold: there it is said to rise at each further failure
 abbrev pub Rose : ℕ → ℕ → Type 0

@@ -15,15 +15,29 @@
 #![tactic(auto)]
 
 mod blob;
+mod counts;
 mod end;
 mod failed;
+mod files;
+mod mem_files;
+mod mem_sink;
+mod mem_source;
 mod no_memory;
 mod sink;
 mod source;
+mod sure_sink;
+mod sure_source;
 
 pub use blob::Blob;
+pub use counts::raise;
 pub use end::End;
 pub use failed::Failed;
+pub use files::{FileFault, Files};
+pub use mem_files::MemFiles;
+pub use mem_sink::MemSink;
+pub use mem_source::MemSource;
 pub use no_memory::NoMemory;
 pub use sink::Sink;
 pub use source::Source;
+pub use sure_sink::SureSink;
+pub use sure_source::SureSource;
