@@ -30,6 +30,8 @@ mod std_in;
 mod std_out;
 mod sure_sink;
 mod sure_source;
+#[cfg(test)]
+mod tests;
 
 pub use blob::Blob;
 pub use counts::raise;
