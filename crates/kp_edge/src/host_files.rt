@@ -1,4 +1,5 @@
-ghost use Rattle.std.specs.Prelude.{◌≡◌, ◌≤◌, None, IfOk, vec_len};
+ghost use Rattle.std.specs.Prelude.{◌≡◌, ◌≤◌, None, Err, length, IfOk, IsErrOf, IsUtf8, vec_len};
+ghost use Rattle.kp_edge.specs.Counts.{Rose};
 
 use crate::{Blob, FileFault, Files, NoMemory, raise};
 use std::alloc::Global;
@@ -47,7 +48,8 @@ fn read_front<R: std::rt::Files>(
     name: &[u8],
     most: usize,
 ) -> Result<Vec<u8>, FileFault>
-    ensures { IfOk result (λ bytes. vec_len bytes ≤ most) }
+    ensures bound { IfOk result (λ bytes. vec_len bytes ≤ most) }
+    ensures no_text { ¬ (IsUtf8 name.now) → result ≡ Err FileFault.Failed }
 {
     let path = str::from_utf8(name).map_err(|_| FileFault::Failed)?;
     let file = fs::open(rt, path).map_err(fault_of)?;
@@ -72,7 +74,14 @@ impl<R: std::rt::Files + Clone + Drop> Files for HostFiles<R> {
 
     ghost faults = { λ f. f };
 
-    fn read(&mut self, alloc: Global, name: &[u8], most: usize) -> Result<Blob, FileFault> {
+    fn read(&mut self, alloc: Global, name: &[u8], most: usize) -> Result<Blob, FileFault>
+        ensures no_text { ¬ (IsUtf8 name.now) → result ≡ Err FileFault.Failed }
+
+        // as of all files
+        ensures bound { IfOk result (λ blob. length blob ≤ most) }
+        ensures later { self.old ≤ self.new }
+        ensures cause { IsErrOf result FileFault.Failed → Rose self.old self.new }
+    {
         match read_front(&self.rt, alloc, name, most) {
             Ok(bytes) => Ok(Blob::from_vec(bytes)),
             Err(FileFault::NoMemory) => Err(FileFault::NoMemory),
