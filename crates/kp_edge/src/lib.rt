@@ -8,10 +8,11 @@
 //!
 //! Each trait has a count of faults, and a call answers a failure only where that count rose in the
 //! call: whoever reports a fault of the outside can point at the object that had it. What a source has
-//! left and what a sink took are told where the object knows them. Objects in memory know them, and
-//! the adapters to the machine don't.
+//! left, what a sink took and what stands in a file are told where the object knows them. Objects in
+//! memory do, and the adapters to the machine don't.
 //!
-//! Why a connection ended is an [`End`]. This crate leaves alone what the bytes mean.
+//! Why a connection ended is an [`End`]. [`Steps`] counts what a contract bounds. What the bytes mean
+//! is left alone here.
 #![tactic(auto)]
 
 mod blob;
@@ -28,10 +29,12 @@ mod sink;
 mod source;
 mod std_in;
 mod std_out;
+mod steps;
 mod sure_sink;
 mod sure_source;
 #[cfg(test)]
 mod tests;
+mod ticks;
 
 pub use blob::Blob;
 pub use counts::raise;
@@ -47,5 +50,6 @@ pub use sink::Sink;
 pub use source::Source;
 pub use std_in::StdIn;
 pub use std_out::StdOut;
+pub use steps::Steps;
 pub use sure_sink::SureSink;
 pub use sure_source::SureSource;
