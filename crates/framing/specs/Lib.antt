@@ -1,0 +1,4 @@
+pub mod Frames
+pub mod Cuts
+pub mod Feed
+pub mod Answers
