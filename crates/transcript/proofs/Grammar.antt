@@ -1,25 +1,24 @@
 -- The texts that are read are those that spell a line, and each spells the line that is read.
-use Rattle.std.proofs.Common.{◌≡◌, ◌≢◌, ℕ, ◌+◌, ◌*◌, ◌<◌, ◌≤◌, ◌^◌, ◌⊎◌, inl, inr, Bool, true, false, cond, List, [], ◌∷◌, ◌++◌, length, take, drop, get_or, refl, sym, ◌∙◌, ap, subst, arith, Option, Some, None, Result, Ok, Err, codes, rules}
+use Rattle.std.proofs.Common.{◌≡◌, ◌≢◌, ℕ, ◌+◌, ◌*◌, ◌<◌, ◌≤◌, ◌^◌, inl, inr, Bool, true, false, cond, List, [], ◌∷◌, ◌++◌, length, take, drop, get_or, refl, sym, ◌∙◌, ap, subst, arith, Option, Some, None, Result, Ok, Err, codes}
 use Rattle.std.specs.Prelude.{IfOk, IsErrOf, position, not, nat_lt, ◌==◌}
 use Rattle.std.specs.Option.{option_map}
 use Rattle.std.specs.Result.{result_ok}
 use Rattle.std.specs.List.{prefix_len}
-use Rattle.std.specs.Str.{bytes_eq, all_ascii_digits}
-use Rattle.std.specs.Str.Parse.{AllDigits, IsNumeral, digits_value}
+use Rattle.std.specs.Str.{bytes_eq}
+use Rattle.std.specs.Str.Parse.{AllDigits}
 use Rattle.std.proofs.lemmas.Bool.{cases_Bool, eqb-false, eqb-true, ltb-false, lt-ltb, le-ltb}
 use Rattle.std.proofs.Common.{append_assoc, add-one, drop-cons, length-append}
 use Rattle.std.proofs.Math.Seq.{take-append_seam, drop-append-add}
 use Rattle.std.proofs.lemmas.List.{take-append-drop}
 use Rattle.std.proofs.lemmas.Str.Parse.{digit_from_value}
 use Rattle.std.proofs.lemmas.Bool.Decides.{nat_tests}
-use Rattle.std.proofs.lemmas.Grind.{common_steps}
 use Rattle.std.proofs.lemmas.List.Quantifiers.{position-Some}
 use Rattle.std.proofs.lemmas.Slice.Eq.{bytes_eq-Decides}
-use Rattle.hex.specs.Hex.{decode_of, decode_pairs}
+use Rattle.hex.specs.Hex.{decode_of}
 use Rattle.hex.proofs.HexLemmas.{decode_of-ok}
 use Rattle.transcript.specs.Hex.{SpellsBytes}
 use Rattle.transcript.specs.Lines.{SpellsNumber, SpellsDone, Spells, most_verdict}
-use Rattle.transcript.specs.Reading.{Reads, number_of, bytes_of, word_of, behind, ◌>>=◌, or_else, bare_of, verdict_of, done_of, line_of}
+use Rattle.transcript.specs.Reading.{Reads, number_of, bytes_of, word_of, behind, bare_of, verdict_of, done_of, line_of}
 use Rattle.transcript.specs.declared.line.Line.{Line}
 use Rattle.transcript.specs.declared.line.Line.TheVariants.{Client, Broker, ClientEnd, BrokerEnd, Send, Emit, Pick, Done, FaultClientRead, FaultClientWrite, FaultBrokerRead, FaultBrokerWrite, FaultAuthority}
 use Rattle.transcript.specs.declared.line.LineFault.{LineFault}

@@ -1,5 +1,5 @@
 -- What it says that a step of reading gave a value.
-use Rattle.std.proofs.Common.{◌≡◌, ℕ, ◌⊎◌, inl, inr, Bool, true, false, cond, refl, Option, Some, None, Result, Ok, Err, List, ◌++◌, length, take, drop, codes, sym, ◌∙◌, ap}
+use Rattle.std.proofs.Common.{◌≡◌, ℕ, ◌⊎◌, inl, inr, Bool, true, false, cond, refl, Option, Some, None, Result, Ok, Err, List, ◌++◌, length, take, drop, sym, ◌∙◌, ap}
 use Rattle.std.specs.Option.{option_map}
 use Rattle.std.specs.Result.{result_ok}
 use Rattle.std.specs.Str.{bytes_eq}

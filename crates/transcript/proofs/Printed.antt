@@ -1,5 +1,5 @@
 -- What printing has appended so far.
-use Rattle.std.proofs.Common.{◌≡◌, ℕ, List, [], ◌∷◌, ◌++◌, Bool, false, refl, sym, ◌∙◌, ap, rules, append_assoc, append-nil, Option, Some, None, Result, Ok, Err, length, take, drop}
+use Rattle.std.proofs.Common.{◌≡◌, ℕ, List, [], ◌∷◌, ◌++◌, Bool, false, refl, sym, ◌∙◌, ap, append_assoc, append-nil, Option, Some, None, Result, Ok, Err, take, drop}
 use Rattle.std.specs.Prelude.{OnOk, OnErr, IfSome, is_err}
 use Rattle.std.specs.Fmt.{WritesText}
 use Rattle.std.proofs.lemmas.Fmt.{contents_after_writes}

@@ -1,4 +1,4 @@
-use Rattle.std.proofs.Common.{◌++◌, codes, ap, sym, ◌∙◌, subst, List, ℕ}
+use Rattle.std.proofs.Common.{◌++◌, codes, subst, List, ℕ}
 use Rattle.std.specs.Fmt.{decimal}
 use Rattle.transcript.specs.Hex.{hex_text}
 use Rattle.transcript.specs.Answers.{AppendsFront}
