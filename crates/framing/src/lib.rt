@@ -18,3 +18,6 @@ mod next;
 pub use framer::Framer;
 pub use laws::{bad_size_stays, cut_in_pieces, each_stream_has_a_cut, frame_or_tail, one_cut};
 pub use next::Next;
+
+#[cfg(test)]
+mod tests;
