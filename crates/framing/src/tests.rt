@@ -1,7 +1,8 @@
 use super::*;
 use bytes::Bytes;
+use std::alloc::Global;
 use std::test::*;
-use wire_types::NoMemory;
+use wire_types::{NoMemory, PutFault, Writer};
 
 // What a framer is to say.
 enum Said {
@@ -171,5 +172,94 @@ fn gives_a_large_frame(rt: HostRuntime) -> Result<(), Fail> {
     assert_eq!(rt; framer.rest(), 0);
     framer.feed(&[0, 0, 0]).ok().ok_or("memory")?;
     assert_eq!(rt; framer.rest(), 3);
+    Ok(())
+}
+
+// A frame, and the key, version, correlation id, client id and body in it.
+struct Request {
+    frame: &'static [u8],
+    start: (i16, i16, i32),
+    client_id: Option<&'static [u8]>,
+    body: &'static [u8],
+}
+
+const REQUESTS: [Request; 3] = [
+    Request {
+        frame: &[0, 18, 0, 1, 0, 0, 0, 7, 0xff, 0xff],
+        start: (18, 1, 7),
+        client_id: None,
+        body: &[],
+    },
+    Request {
+        frame: &[0, 3, 0, 4, 0xff, 0xff, 0xff, 0xff, 0, 0, 1],
+        start: (3, 4, -1),
+        client_id: Some(&[]),
+        body: &[1],
+    },
+    Request {
+        frame: &[0, 19, 0, 0, 0, 0, 1, 0, 0, 3, b'a', b'd', b'm', 0, 0, 0, 0],
+        start: (19, 0, 256),
+        client_id: Some(b"adm"),
+        body: &[0, 0, 0, 0],
+    },
+];
+
+const NO_REQUESTS: [(&'static [u8], HeadFault); 5] = [
+    (&[], HeadFault::Short),
+    (&[0, 18, 0, 0, 0, 0, 0], HeadFault::Short),
+    (&[0, 18, 0, 0, 0, 0, 0, 1], HeadFault::BadClientId),
+    (&[0, 18, 0, 0, 0, 0, 0, 1, 0, 2, 65], HeadFault::BadClientId),
+    (
+        &[0, 18, 0, 0, 0, 0, 0, 1, 0xff, 0xfe],
+        HeadFault::BadClientId,
+    ),
+];
+
+fn spelled(alloc: Global, head: &RequestHead, body: &Bytes) -> Result<Bytes, PutFault> {
+    let mut out = Writer::new(alloc);
+    head.write(&mut out)?;
+    out.put_all(body.as_slice())?;
+    Ok(out.finish()?)
+}
+
+#[test]
+fn heads_of_requests(rt: HostRuntime) -> Result<(), Fail> {
+    for request in &REQUESTS {
+        let frame = Bytes::from_static(request.frame);
+        assert_eq!(rt; start(frame.as_slice()), Some(request.start));
+        let (head, body) = RequestHead::read(&frame).ok().ok_or("a head")?;
+        assert_eq!(rt;
+            (head.key, head.version, head.correlation_id),
+            request.start
+        );
+        assert_eq!(rt; head.client_id, request.client_id.map(Bytes::from_static));
+        assert_eq!(rt; body.as_slice(), request.body);
+        let again = spelled(rt.alloc(), &head, &body).ok().ok_or("memory")?;
+        assert_eq!(rt; again, frame);
+    }
+    Ok(())
+}
+
+#[test]
+fn frames_with_no_head(rt: HostRuntime) {
+    for (frame, fault) in NO_REQUESTS {
+        assert_eq!(rt; RequestHead::read(&Bytes::from_static(frame)), Err(fault));
+    }
+}
+
+#[test]
+fn heads_of_responses(rt: HostRuntime) -> Result<(), Fail> {
+    let frame = Bytes::from_static(&[0, 0, 0, 13, 5, 6]);
+    let read = ResponseHead::read(&frame).ok().ok_or("memory")?;
+    let (head, body) = read.ok_or("a head")?;
+    assert_eq!(rt; head.correlation_id, 13);
+    assert_eq!(rt; body.as_slice(), [5, 6].as_slice());
+    let mut out = Writer::new(rt.alloc());
+    head.write(&mut out).ok().ok_or("memory")?;
+    assert_eq!(rt; out.as_slice(), [0, 0, 0, 13].as_slice());
+    assert_eq!(rt;
+        ResponseHead::read(&Bytes::from_static(&[0, 0, 0])),
+        Ok(None)
+    );
     Ok(())
 }
