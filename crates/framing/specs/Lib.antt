@@ -2,3 +2,4 @@ pub mod Frames
 pub mod Cuts
 pub mod Feed
 pub mod Answers
+pub mod Heads

@@ -12,9 +12,18 @@
 #![tactic(auto)]
 
 mod framer;
+mod head_fault;
 mod laws;
 mod next;
+mod request_head;
+mod response_head;
 
 pub use framer::Framer;
+pub use head_fault::HeadFault;
 pub use laws::{bad_size_stays, cut_in_pieces, each_stream_has_a_cut, frame_or_tail, one_cut};
 pub use next::Next;
+pub use request_head::{RequestHead, start};
+pub use response_head::ResponseHead;
+
+#[cfg(test)]
+mod tests;

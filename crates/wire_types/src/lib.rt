@@ -26,3 +26,6 @@ pub use put_fault::PutFault;
 pub use read_fault::ReadFault;
 pub use reader::Reader;
 pub use writer::Writer;
+
+#[cfg(test)]
+mod tests;

@@ -1,4 +1,4 @@
-ghost use Rattle.std.specs.Prelude.{◌≡◌, ◌++◌, ◌↔◌, ℕ, [], length, IsErrOf, IfOk, OnOk, OnErr};
+ghost use Rattle.std.specs.Prelude.{◌≡◌, ◌++◌, ◌↔◌, ℕ, [], length, take, IsErrOf, IfOk, OnOk, OnErr};
 ghost use Rattle.std.specs.Option.{option_copied};
 ghost use Rattle.wire_types.specs.Numbers.{int16, int32};
 ghost use Rattle.wire_types.specs.Strings.{string, IsTooLong};
@@ -53,6 +53,13 @@ impl Writer {
         ensures { self.new ≡ [] }
     {
         self.bytes.clear();
+    }
+
+    /// Forgets the bytes from `len` on, if there are so many.
+    pub fn truncate(&mut self, len: usize)
+        ensures { self.new ≡ take len self.old }
+    {
+        self.bytes.truncate(len);
     }
 
     /// Appends bytes as they are, with no length.
