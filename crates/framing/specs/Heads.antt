@@ -1,0 +1,40 @@
+-- The heads of requests and responses: "Request Header v1" and "Response Header v0".
+use Rattle.std.specs.Prelude.{◌≡◌, ℕ, ◌-◌, ◌<◌, ◌≤◌, ◌⊎◌, ℤ, FitsSigned, List, ◌++◌, length, drop, slice_range, Option, None, Some}
+use Rattle.std.specs.Int.{w16, w32}
+use Rattle.wire_types.specs.Numbers.{int16, int32, int16_at}
+use Rattle.wire_types.specs.Strings.{string, IsString}
+use Rattle.wire_types.specs.Reading.{need, IsBadLength}
+
+-- api_key INT16, api_version INT16, correlation_id INT32
+abbrev pub request_start : ℤ → ℤ → ℤ → List ℕ
+request_start key version correlation_id = int16 key ++ int16 version ++ int32 correlation_id
+
+-- the start, and client_id STRING
+abbrev pub request_head : ℤ → ℤ → ℤ → Option (List ℕ) → List ℕ
+request_head key version correlation_id client_id = request_start key version correlation_id ++ string client_id
+
+-- a request's frame, without its size, is this start and then this rest
+pub record Starts (frame : List ℕ) (key version correlation_id : ℤ) (rest : List ℕ) : Type 0 where
+  pub key_fits : FitsSigned w16 key
+  pub version_fits : FitsSigned w16 version
+  pub id_fits : FitsSigned w32 correlation_id
+  pub spelled : frame ≡ request_start key version correlation_id ++ rest
+
+-- it is this head and then this body
+pub record IsRequest (frame : List ℕ) (key version correlation_id : ℤ) (client_id : Option (List ℕ)) (body : List ℕ) : Type 0 where
+  pub starts : Starts frame key version correlation_id (string client_id ++ body)
+  pub is_string : IsString client_id
+
+-- what stands behind the start is no STRING: it is too short for one, or has a bad length
+abbrev pub HasBadClientId : List ℕ → Type 0
+HasBadClientId frame = (8 ≤ length frame) × ((length (drop 8 frame) < need 2 (int16_at (drop 8 frame))) ⊎ IsBadLength (int16_at (drop 8 frame)))
+
+-- a response's frame, without its size, is this head and then this body
+pub record IsResponse (frame : List ℕ) (correlation_id : ℤ) (body : List ℕ) : Type 0 where
+  pub id_fits : FitsSigned w32 correlation_id
+  pub spelled : frame ≡ int32 correlation_id ++ body
+
+-- a text stands in the bytes, and ends before this place
+abbrev pub EndsAt : List ℕ → ℕ → Option (List ℕ) → Type 0
+EndsAt bytes end None = Unit {0}
+EndsAt bytes end (Some text) = (length text ≤ end) × (end ≤ length bytes) × (slice_range bytes (end - length text) end ≡ text)

@@ -1,0 +1,5 @@
+pub mod Frames
+pub mod Cuts
+pub mod Feed
+pub mod Answers
+pub mod Heads

@@ -1,0 +1,265 @@
+use super::*;
+use bytes::Bytes;
+use std::alloc::Global;
+use std::test::*;
+use wire_types::{NoMemory, PutFault, Writer};
+
+// What a framer is to say.
+enum Said {
+    Frame(&'static [u8]),
+    Wait,
+    BadSize(u64, i32),
+}
+
+// A piece, all that is said after it, and how many bytes are left then.
+struct Step {
+    piece: &'static [u8],
+    said: &'static [Said],
+    rest: u64,
+}
+
+const ONE: [u8; 8] = [0; 8];
+
+const TWO: [u8; 9] = [1, 2, 3, 4, 5, 6, 7, 8, 9];
+
+// With sizes from 8 to 104857600. Each line is a stream.
+const STREAMS: [&[Step]; 8] = [
+    &[Step {
+        piece: &[0x06, 0x40, 0, 0],
+        said: &[Said::Wait],
+        rest: 4,
+    }],
+    &[Step {
+        piece: &[0x06, 0x40, 0, 1],
+        said: &[Said::BadSize(0, 104857601)],
+        rest: 4,
+    }],
+    &[Step {
+        piece: &[0, 0, 0, 8],
+        said: &[Said::Wait],
+        rest: 4,
+    }],
+    &[Step {
+        piece: &[0, 0, 0, 7],
+        said: &[Said::BadSize(0, 7)],
+        rest: 4,
+    }],
+    &[Step {
+        piece: &[0xff, 0xff, 0xff, 0xff],
+        said: &[Said::BadSize(0, -1)],
+        rest: 4,
+    }],
+    // A bad size behind a frame, and given again after more bytes.
+    &[
+        Step {
+            piece: &[0, 0, 0, 8, 0, 0, 0, 0, 0, 0, 0, 0, 0, 0, 0, 7],
+            said: &[Said::Frame(&ONE), Said::BadSize(12, 7)],
+            rest: 4,
+        },
+        Step {
+            piece: &[0, 0, 0, 8],
+            said: &[Said::BadSize(12, 7)],
+            rest: 8,
+        },
+    ],
+    // A frame that is split inside its size.
+    &[
+        Step {
+            piece: &[0, 0],
+            said: &[Said::Wait],
+            rest: 2,
+        },
+        Step {
+            piece: &[0, 8, 0, 0, 0, 0, 0, 0, 0],
+            said: &[Said::Wait],
+            rest: 11,
+        },
+        Step {
+            piece: &[0],
+            said: &[Said::Frame(&ONE), Said::Wait],
+            rest: 0,
+        },
+    ],
+    // Two frames and a half in one piece.
+    &[
+        Step {
+            piece: &[
+                0, 0, 0, 8, 0, 0, 0, 0, 0, 0, 0, 0, 0, 0, 0, 9, 1, 2, 3, 4, 5, 6, 7, 8, 9, 0, 0, 0,
+                9, 1, 2, 3, 4,
+            ],
+            said: &[Said::Frame(&ONE), Said::Frame(&TWO), Said::Wait],
+            rest: 8,
+        },
+        Step {
+            piece: &[5, 6, 7, 8, 9],
+            said: &[Said::Frame(&TWO), Said::Wait],
+            rest: 0,
+        },
+    ],
+];
+
+fn is_said(next: &Next, said: &Said) -> bool {
+    match (next, said) {
+        (Next::Frame(frame), Said::Frame(bytes)) => frame.as_slice() == *bytes,
+        (Next::Wait, Said::Wait) => true,
+        (Next::BadSize { at, size }, Said::BadSize(place, number)) => at == place && size == number,
+        _ => false,
+    }
+}
+
+#[test]
+fn says_what_comes_next(rt: HostRuntime) -> Result<(), Fail> {
+    for stream in STREAMS {
+        let mut framer = Framer::new(rt.alloc(), 8, 104857600);
+        for step in stream {
+            framer.feed(step.piece).ok().ok_or("memory")?;
+            for said in step.said {
+                let next = framer.next().ok().ok_or("memory")?;
+                assert!(rt; is_said(&next, said), "{next:?}");
+            }
+            assert_eq!(rt; framer.rest(), step.rest);
+        }
+    }
+    Ok(())
+}
+
+// Feeds one byte, and keeps the frame that it ends.
+fn feed_byte(framer: &mut Framer, byte: u8, given: &mut Vec<Bytes>) -> Result<(), NoMemory> {
+    framer.feed(&[byte])?;
+    if let Next::Frame(frame) = framer.next()? {
+        given.push(frame)?;
+    }
+    Ok(())
+}
+
+#[test]
+fn gives_the_same_frames_byte_by_byte(rt: HostRuntime) -> Result<(), Fail> {
+    for stream in STREAMS {
+        let mut framer = Framer::new(rt.alloc(), 8, 104857600);
+        let mut given = Vec::new(rt.alloc());
+        let mut wanted = Vec::new(rt.alloc());
+        for step in stream {
+            for byte in step.piece {
+                feed_byte(&mut framer, *byte, &mut given)
+                    .ok()
+                    .ok_or("memory")?;
+            }
+            for said in step.said {
+                if let Said::Frame(bytes) = said {
+                    wanted.push(*bytes)?;
+                }
+            }
+            assert_eq!(rt; framer.rest(), step.rest);
+        }
+        assert_eq!(rt; given.len(), wanted.len());
+        for (frame, bytes) in given.iter().zip(&wanted) {
+            assert_eq!(rt; frame.as_slice(), *bytes);
+        }
+    }
+    Ok(())
+}
+
+#[test]
+fn gives_a_large_frame(rt: HostRuntime) -> Result<(), Fail> {
+    let large = vec![in rt.alloc(); 7; 70000]?;
+    let mut framer = Framer::new(rt.alloc(), 8, 104857600);
+    framer.feed(&70000u32.to_be_bytes()).ok().ok_or("memory")?;
+    framer.feed(large.as_slice()).ok().ok_or("memory")?;
+    match framer.next().ok().ok_or("memory")? {
+        Next::Frame(frame) => assert_eq!(rt; frame.as_slice(), large.as_slice()),
+        other => assert!(rt; false, "{other:?}"),
+    }
+    assert_eq!(rt; framer.rest(), 0);
+    framer.feed(&[0, 0, 0]).ok().ok_or("memory")?;
+    assert_eq!(rt; framer.rest(), 3);
+    Ok(())
+}
+
+// A frame, and the key, version, correlation id, client id and body in it.
+struct Request {
+    frame: &'static [u8],
+    start: (i16, i16, i32),
+    client_id: Option<&'static [u8]>,
+    body: &'static [u8],
+}
+
+const REQUESTS: [Request; 3] = [
+    Request {
+        frame: &[0, 18, 0, 1, 0, 0, 0, 7, 0xff, 0xff],
+        start: (18, 1, 7),
+        client_id: None,
+        body: &[],
+    },
+    Request {
+        frame: &[0, 3, 0, 4, 0xff, 0xff, 0xff, 0xff, 0, 0, 1],
+        start: (3, 4, -1),
+        client_id: Some(&[]),
+        body: &[1],
+    },
+    Request {
+        frame: &[0, 19, 0, 0, 0, 0, 1, 0, 0, 3, b'a', b'd', b'm', 0, 0, 0, 0],
+        start: (19, 0, 256),
+        client_id: Some(b"adm"),
+        body: &[0, 0, 0, 0],
+    },
+];
+
+const NO_REQUESTS: [(&'static [u8], HeadFault); 5] = [
+    (&[], HeadFault::Short),
+    (&[0, 18, 0, 0, 0, 0, 0], HeadFault::Short),
+    (&[0, 18, 0, 0, 0, 0, 0, 1], HeadFault::BadClientId),
+    (&[0, 18, 0, 0, 0, 0, 0, 1, 0, 2, 65], HeadFault::BadClientId),
+    (
+        &[0, 18, 0, 0, 0, 0, 0, 1, 0xff, 0xfe],
+        HeadFault::BadClientId,
+    ),
+];
+
+fn spelled(alloc: Global, head: &RequestHead, body: &Bytes) -> Result<Bytes, PutFault> {
+    let mut out = Writer::new(alloc);
+    head.write(&mut out)?;
+    out.put_all(body.as_slice())?;
+    Ok(out.finish()?)
+}
+
+#[test]
+fn heads_of_requests(rt: HostRuntime) -> Result<(), Fail> {
+    for request in &REQUESTS {
+        let frame = Bytes::from_static(request.frame);
+        assert_eq!(rt; start(frame.as_slice()), Some(request.start));
+        let (head, body) = RequestHead::read(&frame).ok().ok_or("a head")?;
+        assert_eq!(rt;
+            (head.key, head.version, head.correlation_id),
+            request.start
+        );
+        assert_eq!(rt; head.client_id, request.client_id.map(Bytes::from_static));
+        assert_eq!(rt; body.as_slice(), request.body);
+        let again = spelled(rt.alloc(), &head, &body).ok().ok_or("memory")?;
+        assert_eq!(rt; again, frame);
+    }
+    Ok(())
+}
+
+#[test]
+fn frames_with_no_head(rt: HostRuntime) {
+    for (frame, fault) in NO_REQUESTS {
+        assert_eq!(rt; RequestHead::read(&Bytes::from_static(frame)), Err(fault));
+    }
+}
+
+#[test]
+fn heads_of_responses(rt: HostRuntime) -> Result<(), Fail> {
+    let frame = Bytes::from_static(&[0, 0, 0, 13, 5, 6]);
+    let read = ResponseHead::read(&frame).ok().ok_or("memory")?;
+    let (head, body) = read.ok_or("a head")?;
+    assert_eq!(rt; head.correlation_id, 13);
+    assert_eq!(rt; body.as_slice(), [5, 6].as_slice());
+    let mut out = Writer::new(rt.alloc());
+    head.write(&mut out).ok().ok_or("memory")?;
+    assert_eq!(rt; out.as_slice(), [0, 0, 0, 13].as_slice());
+    assert_eq!(rt;
+        ResponseHead::read(&Bytes::from_static(&[0, 0, 0])),
+        Ok(None)
+    );
+    Ok(())
+}

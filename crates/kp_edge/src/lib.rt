@@ -1,0 +1,55 @@
+//! What the proxy meets outside of itself: streams, files, and the memory that may be wanting.
+//!
+//! ```text
+//!   Source --read-->  the proxy  --write--> Sink          Files --read--> a Blob
+//!      |                                      |              |
+//!    left, faults                        taken, faults     content, faults
+//! ```
+//!
+//! Each trait has a count of faults, and a call answers a failure only where that count rose in the
+//! call: whoever reports a fault of the outside can point at the object that had it. What a source has
+//! left, what a sink took and what stands in a file are told where the object knows them. Objects in
+//! memory do, and the adapters to the machine don't.
+//!
+//! Why a connection ended is an [`End`]. [`Steps`] counts what a contract bounds. What the bytes mean
+//! is left alone here.
+#![tactic(auto)]
+
+mod blob;
+mod counts;
+mod end;
+mod failed;
+mod files;
+mod host_files;
+mod mem_files;
+mod mem_sink;
+mod mem_source;
+mod no_memory;
+mod sink;
+mod source;
+mod std_in;
+mod std_out;
+mod steps;
+mod sure_sink;
+mod sure_source;
+#[cfg(test)]
+mod tests;
+mod ticks;
+
+pub use blob::Blob;
+pub use counts::raise;
+pub use end::End;
+pub use failed::Failed;
+pub use files::{FileFault, Files};
+pub use host_files::HostFiles;
+pub use mem_files::MemFiles;
+pub use mem_sink::MemSink;
+pub use mem_source::MemSource;
+pub use no_memory::NoMemory;
+pub use sink::Sink;
+pub use source::Source;
+pub use std_in::StdIn;
+pub use std_out::StdOut;
+pub use steps::Steps;
+pub use sure_sink::SureSink;
+pub use sure_source::SureSource;

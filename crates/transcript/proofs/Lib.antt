@@ -1,0 +1,4 @@
+pub mod Grammar
+pub mod NumberLemmas
+pub mod Options
+pub mod Printed

@@ -1,0 +1,4 @@
+pub mod Answers
+pub mod Hex
+pub mod Lines
+pub mod Reading

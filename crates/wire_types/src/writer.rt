@@ -1,0 +1,131 @@
+ghost use Rattle.std.specs.Prelude.{◌≡◌, ◌++◌, ◌↔◌, ℕ, [], length, take, IsErrOf, IfOk, OnOk, OnErr};
+ghost use Rattle.std.specs.Option.{option_copied};
+ghost use Rattle.wire_types.specs.Numbers.{int16, int32};
+ghost use Rattle.wire_types.specs.Strings.{string, IsTooLong};
+
+use crate::no_memory::NoMemory;
+use crate::put_fault::PutFault;
+use bytes::Bytes;
+use std::alloc::Global;
+use std::marker::Model;
+
+// The greatest length that an INT16 says.
+const MAX_TEXT: usize = 32767;
+
+/// Bytes that grow at their end, by one spelled item at a time.
+#[derive(Drop)]
+pub struct Writer {
+    bytes: Vec<u8>,
+}
+
+impl Model for Writer {
+    ghost use Rattle.std.specs.Prelude.{ℕ, List};
+
+    ghost Value = { List ℕ };
+
+    ghost view = { λ writer. writer.bytes.items };
+}
+
+impl Writer {
+    /// An empty writer. It allocates nothing.
+    pub fn new(alloc: Global) -> Writer
+        ensures { result ≡ [] }
+    {
+        Writer {
+            bytes: Vec::new(alloc),
+        }
+    }
+
+    pub fn len(&self) -> usize
+        ensures { result ≡ length self.now }
+    {
+        self.bytes.len()
+    }
+
+    pub fn as_slice(&self) -> &[u8]
+        ensures { result.now ≡ self.now }
+    {
+        self.bytes.as_slice()
+    }
+
+    /// Forgets the bytes. The next ones take their room.
+    pub fn clear(&mut self)
+        ensures { self.new ≡ [] }
+    {
+        self.bytes.clear();
+    }
+
+    /// Forgets the bytes from `len` on, if there are so many.
+    pub fn truncate(&mut self, len: usize)
+        ensures { self.new ≡ take len self.old }
+    {
+        self.bytes.truncate(len);
+    }
+
+    /// Appends bytes as they are, with no length.
+    pub fn put_all(&mut self, bytes: &[u8]) -> Result<(), NoMemory>
+        ensures ok { OnOk result (self.new ≡ self.old ++ bytes.now) }
+        ensures err { OnErr result (self.new ≡ self.old) }
+    {
+        self.bytes.extend_from_slice(bytes)?;
+        Ok(())
+    }
+
+    pub fn put_i16(&mut self, value: i16) -> Result<(), PutFault>
+        ensures ok { OnOk result (self.new ≡ self.old ++ int16 value) }
+        ensures err { OnErr result (self.new ≡ self.old) }
+        ensures only { OnErr result (result ≡ Err PutFault.NoMemory) }
+    {
+        self.put_all(&value.to_be_bytes())?;
+        Ok(())
+    }
+
+    pub fn put_i32(&mut self, value: i32) -> Result<(), PutFault>
+        ensures ok { OnOk result (self.new ≡ self.old ++ int32 value) }
+        ensures err { OnErr result (self.new ≡ self.old) }
+        ensures only { OnErr result (result ≡ Err PutFault.NoMemory) }
+    {
+        self.put_all(&value.to_be_bytes())?;
+        Ok(())
+    }
+
+    /// Appends a STRING. `None` is null.
+    pub fn put_string(&mut self, value: Option<&[u8]>) -> Result<(), PutFault>
+        ensures ok { OnOk result (self.new ≡ self.old ++ string (option_copied value.entry)) }
+        ensures too_long { (length : ℕ) → IsErrOf result (PutFault.TooLong length)
+            ↔ (IsTooLong (option_copied value.entry) length) }
+        ensures err { OnErr result (self.new ≡ self.old) }
+    {
+        match value {
+            Some(text) => self.put_text(text),
+            None => self.put_i16(-1),
+        }
+    }
+
+    /// The bytes for others to share. No byte is copied.
+    pub fn finish(self) -> Result<Bytes, NoMemory>
+        ensures { IfOk result (λ bytes. bytes ≡ self) }
+    {
+        Ok(Bytes::from_vec(self.bytes)?)
+    }
+
+    fn put_text(&mut self, text: &[u8]) -> Result<(), PutFault>
+        ensures ok { OnOk result (self.new ≡ self.old ++ string (Some text.now)) }
+        ensures too_long { (length : ℕ) → IsErrOf result (PutFault.TooLong length)
+            ↔ (IsTooLong (Some text.now) length) }
+        ensures err { OnErr result (self.new ≡ self.old) }
+    {
+        if text.len() > MAX_TEXT {
+            return Err(PutFault::TooLong {
+                length: text.len() as u64,
+            });
+        }
+        let start = self.bytes.len();
+        self.put_i16(text.len() as i16)?;
+        let put = self.put_all(text);
+        if put.is_err() {
+            self.bytes.truncate(start);
+        }
+        Ok(put?)
+    }
+}
