@@ -1,12 +1,12 @@
 -- What happened at a connection, and what came of it.
-use Rattle.std.specs.Prelude.{◌≡◌, ℕ, List, [], ◌∷◌, ◌++◌, take, flat_map, Option, Some, None}
+use Rattle.std.specs.Prelude.{◌≡◌, ℕ, List, [], ◌∷◌, take, flat_map}
 use Rattle.conn_rules.specs.declared.event.Event.{Event}
 use Rattle.conn_rules.specs.declared.event.Reply.{Reply}
 use Rattle.conn_rules.specs.declared.event.Reply.TheVariants as reply
 use Rattle.conn_rules.specs.declared.event.Emit.{Emit}
 use Rattle.conn_rules.specs.declared.event.Emit.TheVariants as emit
 use Rattle.conn_rules.specs.Meaning.{Meaning, Status, Waits, Done, Fails}
-use Rattle.conn_rules.specs.State.{Request, State, opening}
+use Rattle.conn_rules.specs.State.{State, opening}
 use Rattle.conn_rules.specs.Steps.{May}
 
 -- one event with who brought it and what was answered

@@ -1,10 +1,10 @@
 -- What requests do by themselves: fail, or put a message before the broker. After each event the connection
 -- settles: the least request that can do either does it, until none can.
-use Rattle.std.specs.Prelude.{◌≡◌, ℕ, zero, suc, ◌==◌, ◌&&◌, ◌||◌, not, Bool, true, false, if◌then◌else◌, List, [], ◌∷◌, ◌++◌, length, Option, Some, None}
+use Rattle.std.specs.Prelude.{◌≡◌, ℕ, zero, suc, ◌==◌, ◌&&◌, ◌||◌, not, Bool, true, if◌then◌else◌, List, [], ◌∷◌, ◌++◌, length, Option, Some, None}
 use Rattle.std.specs.List.{list_any}
 use Rattle.kp_edge.specs.declared.end.End.{End}
 use Rattle.conn_rules.specs.State.{NoResponse, Request, Sent, State, below, cut_at, give}
-use Rattle.conn_rules.specs.Meaning.{Meaning, Ask, ToBroker, Hold, Status, Waits, Done, Fails}
+use Rattle.conn_rules.specs.Meaning.{Meaning, ToBroker, Hold, Status, Waits, Done, Fails}
 
 -- what a request does
 pub data Act : Type 0 where

@@ -1,5 +1,5 @@
 -- How a connection stands. Requests and sends are kept whole and for good: the code keeps less.
-use Rattle.std.specs.Prelude.{ℕ, zero, suc, ◌+◌, ◌-◌, ◌^◌, ◌%◌, nat_lt, ◌==◌, ◌&&◌, ◌||◌, Bool, true, false, not, is_some, if◌then◌else◌, List, [], ◌∷◌, ◌++◌, length, take, drop, sum_by, slice_get, slice_set, Option, Some, None, ℤ, pos, option_map, unwrap_or}
+use Rattle.std.specs.Prelude.{ℕ, suc, ◌-◌, ◌^◌, ◌%◌, nat_lt, ◌||◌, Bool, true, is_some, if◌then◌else◌, List, [], ◌∷◌, ◌++◌, length, take, drop, sum_by, slice_get, slice_set, Option, Some, None, ℤ}
 use Rattle.std.specs.Int.{w32, to_be_bytes, from_be_bytes, cast_signed}
 use Rattle.kp_edge.specs.declared.end.End.{End}
 

@@ -1,22 +1,20 @@
 -- One event: what is answered, and how the connection stands then.
-use Rattle.std.specs.Prelude.{◌≡◌, ℕ, zero, suc, ◌+◌, ◌==◌, ◌&&◌, ◌||◌, nat_lt, not, Bool, true, false, is_some, if◌then◌else◌, List, [], ◌∷◌, ◌++◌, length, take, drop, slice_get, Option, Some, None, Result, Ok, Err, ℤ, pos, ◌⊎◌}
+use Rattle.std.specs.Prelude.{◌≡◌, ℕ, zero, suc, ◌+◌, ◌==◌, ◌&&◌, ◌||◌, not, Bool, false, is_some, if◌then◌else◌, List, [], ◌∷◌, ◌++◌, length, drop, slice_get, Option, Some, None, Ok, Err, pos, ◌⊎◌}
 use Rattle.std.specs.List.{list_any}
 use Rattle.std.specs.Ordering.{int_eq}
 use Rattle.kp_edge.specs.declared.end.End.{End}
 use Rattle.kp_edge.specs.declared.end.End.TheVariants as end
-use Rattle.kp_edge.specs.declared.no_memory.NoMemory.{NoMemory}
 use Rattle.conn_rules.specs.declared.event.Event.{Event}
 use Rattle.conn_rules.specs.declared.event.Event.TheVariants as event
 use Rattle.conn_rules.specs.declared.event.Reply.{Reply}
 use Rattle.conn_rules.specs.declared.event.Reply.TheVariants as reply
 use Rattle.conn_rules.specs.declared.event.Fault.{Fault}
 use Rattle.conn_rules.specs.declared.event.Fault.TheVariants as fault
-use Rattle.conn_rules.specs.declared.event.Emit.{Emit}
 use Rattle.conn_rules.specs.declared.event.Emit.TheVariants as emit
 use Rattle.conn_rules.specs.declared.event.TakeFault.TheVariants as take_fault
 use Rattle.conn_rules.specs.declared.event.AnswerFault.TheVariants as answer_fault
 use Rattle.conn_rules.specs.declared.event.CompleteFault.TheVariants as complete_fault
-use Rattle.conn_rules.specs.Meaning.{Meaning, Ask, ToBroker, Hold, Status, Waits, Done, Fails}
+use Rattle.conn_rules.specs.Meaning.{Meaning, ToBroker, Hold, Status, Waits, Done, Fails}
 use Rattle.conn_rules.specs.State.{Body, Verdict, Request, Sent, State, below, cut_at, dead, halted, is_ending, is_dead, is_still, in_flight, held, give, upstream_id, upstream_frame, found_id, due_send, waiting}
 use Rattle.conn_rules.specs.Settling.{Settles}
 

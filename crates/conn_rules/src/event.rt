@@ -16,9 +16,13 @@ pub enum Event {
         verdict: Blob,
     },
     /// The client's stream ended with `rest` bytes of a frame.
-    ClientEnd { rest: u64 },
+    ClientEnd {
+        rest: u64,
+    },
     /// The broker's stream ended with `rest` bytes of a frame.
-    BrokerEnd { rest: u64 },
+    BrokerEnd {
+        rest: u64,
+    },
     /// Something outside failed.
     Fault(Fault),
     /// The broker's writer asks for the next frame to send.
@@ -75,11 +79,7 @@ pub enum TakeFault {
     /// The connection is ending. The frame comes back.
     Ending(Bytes),
     /// There is no room: `count` requests are in flight, whose frames have `held` bytes. The frame comes back.
-    Full {
-        count: u32,
-        held: u64,
-        frame: Bytes,
-    },
+    Full { count: u32, held: u64, frame: Bytes },
     NoMemory,
 }
 

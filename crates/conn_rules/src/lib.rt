@@ -9,7 +9,7 @@
 #![tactic(auto)]
 
 mod event;
+mod laws;
 
-pub use event::{
-    AnswerFault, CompleteFault, Emit, Event, Fault, Look, Reply, TakeFault, Ticket,
-};
+pub use event::{AnswerFault, CompleteFault, Emit, Event, Fault, Look, Reply, TakeFault, Ticket};
+pub use laws::order_law;
