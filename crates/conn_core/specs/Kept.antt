@@ -2,6 +2,9 @@
 use Rattle.std.specs.Prelude.{ℕ, ◌+◌, ◌-◌, List, [], ◌∷◌, ◌++◌, length, take, drop, slice_get, Option, Some, None, Bool, if◌then◌else◌}
 use Rattle.std.specs.Int.{w32, to_be_bytes}
 use Rattle.kp_edge.specs.declared.end.End.{End}
+use Rattle.kp_edge.specs.declared.end.End.TheVariants as end
+use Rattle.conn_rules.specs.declared.event.Fault.{Fault}
+use Rattle.conn_rules.specs.declared.event.Fault.TheVariants as fault
 use Rattle.conn_rules.specs.State.{below, first_cause, sized, upstream_id}
 use Rattle.conn_core.specs.declared.slot.Slot.{Slot}
 use Rattle.conn_core.specs.declared.connection.Core.{Core}
@@ -57,3 +60,19 @@ with_answer body k =
       slots = if below k.cut k.answered then with_body body (slice_get k.slots (k.answered - emitted_of k)) k.slots (k.answered - emitted_of k) else k.slots;
       answered = k.answered + 1;
     }
+
+-- the cut, where one is set behind the last request
+abbrev pub cut_here : Kept → End → Option (ℕ × End)
+cut_here k why = if below k.cut k.requests then Some (k.requests, why) else k.cut
+
+-- something outside failed
+abbrev pub with_fault : Fault → Kept → Kept
+with_fault fault.ClientRead k = record k { cut = cut_here k end.ClientReadFault }
+with_fault fault.ClientWrite k = record k { halt = first_cause k.halt end.ClientWriteFault }
+with_fault fault.BrokerRead k = record k { death = first_cause k.death end.BrokerReadFault }
+with_fault fault.BrokerWrite k = record k { death = first_cause k.death end.BrokerWriteFault }
+with_fault (fault.ClientBadSize at size) k = record k { cut = cut_here k (end.BadSize at size) }
+with_fault (fault.BrokerBadSize at size) k = record k { death = first_cause k.death (end.BrokerBadSize at size) }
+with_fault (fault.Authority request) k = k
+with_fault fault.Thread k = record k { halt = first_cause k.halt end.ThreadRefused }
+with_fault fault.NoMemory k = record k { halt = first_cause k.halt end.NoMemory }

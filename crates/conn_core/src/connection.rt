@@ -1,8 +1,8 @@
 ghost use Rattle.std.specs.Prelude.{◌≡◌, ◌+◌, ◌-◌, ◌<◌, ◌≤◌, ◌^◌, ◌||◌, ◌&&◌, length, drop, slice_get, is_some, is_ok, nat_lt, pos, OnOk, OnErr, Some, IsTrue, if◌then◌else◌};
 ghost use Rattle.std.specs.Ordering.{int_eq};
 ghost use Rattle.conn_rules.specs.State.{opening, below, first_cause, found_id, upstream_id};
-ghost use Rattle.conn_rules.specs.Steps.{cause_at};
-ghost use Rattle.conn_core.specs.Kept.{kept, emitted_of, taken_of, with_request, with_answer};
+ghost use Rattle.conn_rules.specs.Steps.{cause_at, client_ended};
+ghost use Rattle.conn_core.specs.Kept.{kept, emitted_of, taken_of, with_request, with_answer, with_fault, cut_here};
 ghost use Rattle.conn_core.specs.Stands.{Stands, Follows};
 
 use crate::frames::{client_id, found_id, is_heartbeat, upstream_id, wire_frame};
@@ -86,7 +86,7 @@ impl Core {
             self.stop(End::NotBuilt);
             return Ok(());
         }
-        match self.give(&frame.as_slice()[4..]) {
+        match self.give(frame.as_slice().split_at(4).1) {
             Ok(()) => Ok(()),
             Err(NoMemory) => {
                 self.stop(End::NoMemory);
@@ -109,7 +109,7 @@ impl Core {
         if self.death.is_some() {
             return;
         }
-        self.cut_here(if rest == 0 { End::Ended } else { End::ClientTorn { rest } });
+        self.cut_here(client_ended(rest));
     }
 
     /// Something outside of the connection failed.
@@ -123,18 +123,7 @@ impl Core {
             self.stop(End::NotBuilt);
             return;
         }
-        match fault {
-            Fault::ClientRead => self.cut_here(End::ClientReadFault),
-            Fault::ClientWrite => self.stop(End::ClientWriteFault),
-            Fault::BrokerRead => self.die(End::BrokerReadFault),
-            Fault::BrokerWrite => self.die(End::BrokerWriteFault),
-            Fault::ClientBadSize { at, size } => self.cut_here(End::BadSize { at, size }),
-            Fault::BrokerBadSize { at, size } => self.die(End::BrokerBadSize { at, size }),
-            // no request waits for the authority
-            Fault::Authority { request: _ } => {}
-            Fault::Thread => self.stop(End::ThreadRefused),
-            Fault::NoMemory => self.stop(End::NoMemory),
-        }
+        self.fail(fault);
     }
 
     /// The next message for the broker, with its size.
@@ -220,7 +209,11 @@ impl Core {
         ensures { result ≡ cause_at self.now.cut (emitted_of (kept self.now)) }
     {
         let (cut, why) = self.cut?;
-        if cut == self.emitted() { Some(why) } else { None }
+        if cut == self.emitted() {
+            Some(why)
+        } else {
+            None
+        }
     }
 
     /// The frame becomes the next request, and its message joins the others.
@@ -262,8 +255,26 @@ impl Core {
         Ok(())
     }
 
+    /// What the rules say of a fault.
+    fn fail(&mut self, fault: Fault)
+        ensures { kept self.new ≡ with_fault fault (kept self.old) }
+    {
+        match fault {
+            Fault::ClientRead => self.cut_here(End::ClientReadFault),
+            Fault::ClientWrite => self.stop(End::ClientWriteFault),
+            Fault::BrokerRead => self.die(End::BrokerReadFault),
+            Fault::BrokerWrite => self.die(End::BrokerWriteFault),
+            Fault::ClientBadSize { at, size } => self.cut_here(End::BadSize { at, size }),
+            Fault::BrokerBadSize { at, size } => self.die(End::BrokerBadSize { at, size }),
+            // no request waits for the authority
+            Fault::Authority { request: _ } => {}
+            Fault::Thread => self.stop(End::ThreadRefused),
+            Fault::NoMemory => self.stop(End::NoMemory),
+        }
+    }
+
     fn cut_here(&mut self, why: End)
-        ensures { self.new ≡ record self.old { cut = if below self.old.cut self.old.requests then Some (self.old.requests, why) else self.old.cut } }
+        ensures { self.new ≡ record self.old { cut = cut_here (kept self.old) why } }
     {
         if self.is_below_cut(self.requests) {
             self.cut = Some((self.requests, why));
@@ -292,5 +303,16 @@ impl Core {
     {
         self.over = Some(why);
         Emit::Over(why)
+    }
+}
+
+/// Why the client's stream ended with this many bytes of a frame.
+fn client_ended(rest: u64) -> End
+    ensures { result ≡ client_ended rest }
+{
+    if rest == 0 {
+        End::Ended
+    } else {
+        End::ClientTorn { rest }
     }
 }

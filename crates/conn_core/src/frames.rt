@@ -8,6 +8,7 @@ use kp_edge::NoMemory;
 use std::alloc::Global;
 
 const HEARTBEAT: u16 = 12;
+
 const NEWEST_HEARTBEAT: u16 = 3;
 
 pub(crate) fn is_heartbeat(frame: &[u8]) -> bool

@@ -12,8 +12,10 @@
 
 mod connection;
 mod frames;
+mod laws;
 mod served;
 mod slot;
 
 pub use conn_rules::{AnswerFault, Emit, Fault, TakeFault};
 pub use connection::Core;
+pub use laws::heartbeats_law;
