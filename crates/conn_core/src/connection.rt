@@ -102,7 +102,8 @@ impl Core {
         if self.over.is_some() {
             return;
         }
-        if rest > 0 && self.halt.is_none() {
+        let torn = rest > 0;
+        if torn && self.halt.is_none() {
             self.stop(End::NotBuilt);
             return;
         }

@@ -15,6 +15,8 @@ mod frames;
 mod laws;
 mod served;
 mod slot;
+#[cfg(test)]
+mod tests;
 
 pub use conn_rules::{AnswerFault, Emit, Fault, TakeFault};
 pub use connection::Core;
