@@ -1,0 +1,4 @@
+pub mod Heartbeats
+pub mod Slots
+pub mod Kept
+pub mod Stands
