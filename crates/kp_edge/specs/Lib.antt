@@ -1,5 +1,7 @@
+pub mod Cabinet
 pub mod Counts
 pub mod End
-pub mod Files
-pub mod Memory
+pub mod Feed
+pub mod Outlet
 pub mod Source
+pub mod Store

@@ -1,6 +1,6 @@
 ghost use Rattle.std.specs.Prelude.{◌≡◌, ◌≤◌, ◌↔◌, ℕ, List, Some, length, take, option_copied, option_map, IfOk, IfSome, IsErrOf};
 ghost use Rattle.kp_edge.specs.Counts.{Rose};
-ghost use Rattle.kp_edge.specs.Files.{file_of, Misses, after_reading};
+ghost use Rattle.kp_edge.specs.Cabinet.{file_of, Misses, after_reading};
 
 use crate::{Blob, FileFault, Files, raise};
 use std::alloc::Global;
@@ -17,7 +17,7 @@ pub struct MemFiles {
 }
 
 impl Model for MemFiles {
-    ghost use Rattle.kp_edge.specs.Files.{Cabinet};
+    ghost use Rattle.kp_edge.specs.Cabinet.{Cabinet};
 
     ghost Value = { Cabinet };
 

@@ -1,6 +1,6 @@
 ghost use Rattle.std.specs.Prelude.{◌≡◌, ◌<◌, ◌≤◌, ◌↔◌, ◌++◌, [], Some, length, take, IsErr, IfOk, OnErr};
 ghost use Rattle.kp_edge.specs.Counts.{HasCause};
-ghost use Rattle.kp_edge.specs.Memory.{Refuses, share, after_accepting, after_refusing};
+ghost use Rattle.kp_edge.specs.Outlet.{Refuses, share, after_accepting, after_refusing};
 
 use crate::{Failed, NoMemory, Sink, SureSink, raise};
 use std::alloc::Global;
@@ -18,7 +18,7 @@ pub struct MemSink {
 }
 
 impl Model for MemSink {
-    ghost use Rattle.kp_edge.specs.Memory.{Outlet};
+    ghost use Rattle.kp_edge.specs.Outlet.{Outlet};
 
     ghost Value = { Outlet };
 

@@ -1,7 +1,7 @@
 ghost use Rattle.std.specs.Prelude.{◌≡◌, ◌<◌, ◌≤◌, ◌↔◌, false, length, drop, Some, IsErr, IfOk, OnErr};
 ghost use Rattle.kp_edge.specs.Counts.{HasCause};
 ghost use Rattle.kp_edge.specs.Source.{Gives};
-ghost use Rattle.kp_edge.specs.Memory.{IsFailing, limit, portion, after_giving, after_failing};
+ghost use Rattle.kp_edge.specs.Feed.{IsFailing, limit, portion, after_giving, after_failing};
 
 use crate::{Blob, Failed, Source, SureSource, raise};
 use std::marker::Model;
@@ -21,7 +21,7 @@ pub struct MemSource {
 }
 
 impl Model for MemSource {
-    ghost use Rattle.kp_edge.specs.Memory.{Feed};
+    ghost use Rattle.kp_edge.specs.Feed.{Feed};
 
     ghost Value = { Feed };
 

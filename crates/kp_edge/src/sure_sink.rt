@@ -1,6 +1,6 @@
 ghost use Rattle.std.specs.Prelude.{◌≡◌, ◌+◌, ◌-◌, ◌<◌, ◌≤◌, ◌↔◌, ◌++◌, [], Some, length, min, take, IsOk, IsErr, IfOk, OnErr};
 ghost use Rattle.kp_edge.specs.Counts.{HasCause, raised};
-ghost use Rattle.kp_edge.specs.Memory.{IsFullFor, after_taking};
+ghost use Rattle.kp_edge.specs.Store.{IsFullFor, after_taking};
 
 use crate::{Failed, NoMemory, Sink, raise};
 use std::alloc::Global;
@@ -17,7 +17,7 @@ pub struct SureSink {
 
 impl Model for SureSink {
     ghost use Rattle.std.specs.Prelude.{◌+◌, ◌≤◌, vec_len, vec_capacity};
-    ghost use Rattle.kp_edge.specs.Memory.{Store};
+    ghost use Rattle.kp_edge.specs.Store.{Store};
 
     ghost Value = { Store };
 

@@ -6,9 +6,9 @@ use kp_edge::{Blob, End};
 pub enum Answer {
     /// It was done.
     Fine,
-    /// The piece was taken, and a frame waits for room.
+    /// A client's frame found no room, and is kept.
     Full,
-    /// That side is closed.
+    /// That side has ended, or the connection takes no more.
     Closed,
     /// No such question waits for an answer.
     NotWaiting,

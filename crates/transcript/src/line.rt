@@ -23,10 +23,15 @@ pub enum Line {
         index: u32,
         verdict: Blob,
     },
+    /// A read of the client's source fails.
     FaultClientRead,
+    /// A write to the client's sink fails.
     FaultClientWrite,
+    /// A read of the broker's source fails.
     FaultBrokerRead,
+    /// A write to the broker's sink fails.
     FaultBrokerWrite,
+    /// The authority fails at a question of a request.
     FaultAuthority {
         request: u64,
     },
@@ -35,7 +40,7 @@ pub enum Line {
 /// Why a line wasn't read.
 #[derive(Clone, Copy, Debug, PartialEq, Eq)]
 pub enum LineFault {
-    /// The line is outside the grammar.
+    /// The text is outside the grammar.
     BadLine,
     NoMemory,
 }

@@ -10,7 +10,7 @@ use std::alloc::Global;
 /// The most bytes of an authority's answer.
 const MOST_VERDICT: usize = 8_388_608;
 
-/// The line that a text spells, its end left off. A line that no text of the grammar is is refused.
+/// The line that a text spells. The text has no line's end behind it.
 pub fn read_line(alloc: Global, line: &[u8]) -> Result<Line, LineFault>
     ensures read { IfOk result (λ found. Spells found line.now) }
     ensures bad { IsErrOf result LineFault.BadLine → (other : Line) → ¬ (Spells other line.now) }

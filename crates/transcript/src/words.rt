@@ -1,4 +1,5 @@
-ghost use Rattle.std.specs.Prelude.{◌≡◌, [], ◌++◌, OnOk};
+ghost use Rattle.std.specs.Prelude.{◌≡◌, ◌+◌, ◌≤◌, ◌↔◌, [], ◌++◌, length, IsOk, OnErr};
+ghost use Rattle.transcript.specs.declared.words.TheConstants.{ROOM};
 
 use std::fmt;
 use std::marker::Model;
@@ -44,7 +45,11 @@ impl Words {
 impl fmt::Write for Words {
     ghost write_str_gives = { λ before text after. after ≡ before ++ text };
 
-    fn write_str(&mut self, s: &str) -> fmt::Result {
+    fn write_str(&mut self, s: &str) -> fmt::Result
+        ensures ok { IsOk result → self.new ≡ self.old ++ s.now }
+        ensures fits { IsOk result ↔ (length self.old + length s.now ≤ ROOM) }
+        ensures err { OnErr result (self.new ≡ self.old) }
+    {
         let text = s.as_bytes();
         if text.len() > ROOM - self.len {
             return Err(fmt::Error);

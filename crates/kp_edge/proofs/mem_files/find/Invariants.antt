@@ -1,5 +1,5 @@
 use Rattle.std.proofs.Common.{◌≡◌, drop}
-use Rattle.kp_edge.specs.Files.{file_of}
+use Rattle.kp_edge.specs.Cabinet.{file_of}
 use Rattle.kp_edge.proofs.mem_files.find.Given as goal
 
 -- none of the files so far has the name
