@@ -1,7 +1,9 @@
-ghost use Rattle.conn_rules.specs.Meaning.{Lasting};
+ghost use Rattle.conn_rules.specs.Meaning.{Lasting, ServesLate};
 ghost use Rattle.conn_core.specs.Heartbeats.{heartbeats};
 
-/// A Heartbeat's response stays as it is, so the law of order holds of its connections.
+/// What the laws of order and of requests ask: a Heartbeat's response stays as it is, and a frame that comes
+/// too late is refused, whatever it is.
 pub fn heartbeats_law()
-    ensures { Lasting heartbeats }
+    ensures lasting { Lasting heartbeats }
+    ensures late { ServesLate heartbeats }
 {}

@@ -1,5 +1,5 @@
 use Rattle.std.proofs.Common.{◌≡◌, List, [], ◌∷◌, ◌++◌, ℕ}
-use Rattle.conn_rules.specs.Meaning.{Status, Done}
+use Rattle.conn_rules.specs.Meaning.{Done}
 use Rattle.conn_rules.specs.State.{Outside, Body, NoResponse, Verdict}
 use Rattle.conn_core.specs.Heartbeats.{heartbeat_status}
 use Rattle.conn_core.proofs.laws.heartbeats_law.Goals as goal
@@ -11,4 +11,4 @@ stays frame (NoResponse ∷ given) more response h = cc
 stays frame (Verdict verdict ∷ given) more response h = cc
 
 pub returns : goal.returns
-returns c = record { stays = stays; silence = λ frame given response is done. cc }
+returns c = record { lasting = record { stays = stays; silence = λ frame given response is done. cc }; late = λ s frame ending. rw ending }
