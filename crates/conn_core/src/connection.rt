@@ -1,4 +1,4 @@
-ghost use Rattle.std.specs.Prelude.{◌≡◌, ◌+◌, ◌-◌, ◌<◌, ◌≤◌, ◌^◌, ◌||◌, ◌&&◌, length, drop, slice_get, is_some, is_ok, nat_lt, pos, OnOk, OnErr, Some, IsTrue, if◌then◌else◌};
+ghost use Rattle.std.specs.Prelude.{◌≡◌, ◌<◌, ◌≤◌, ◌^◌, ◌||◌, ◌&&◌, length, is_some, nat_lt, pos, OnOk, OnErr, Some};
 ghost use Rattle.std.specs.Ordering.{int_eq};
 ghost use Rattle.conn_rules.specs.State.{opening, below, first_cause, found_id, upstream_id};
 ghost use Rattle.conn_rules.specs.Steps.{cause_at, client_ended};

@@ -11,4 +11,4 @@ stays frame (NoResponse ∷ given) more response h = cc
 stays frame (Verdict verdict ∷ given) more response h = cc
 
 pub returns : goal.returns
-returns c = record { lasting = record { stays = stays; silence = λ frame given response is done. cc }; late = λ s frame ending. rw ending }
+returns c = record { stays = stays; silence = λ frame given response is done. cc }
