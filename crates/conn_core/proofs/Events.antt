@@ -1,5 +1,5 @@
 -- Each event: what the core keeps after it is what is kept of the state that the machine goes on to.
-use Rattle.std.proofs.Common.{◌≡◌, ◌≢◌, ◌∙◌, ap, ℕ, zero, suc, ◌+◌, ◌-◌, ◌≤◌, ◌<◌, ◌==◌, Bool, true, false, ◌&&◌, ◌||◌, not, is_some, if◌then◌else◌, List, [], ◌∷◌, ◌++◌, refl, sym, subst, take, drop, length, map, slice_get, set, Option, Some, None, Result, Ok, Err, ◌⊎◌, inl, inr, ℤ, pos, arith, add-zero, zero-add, add-one, nat_lt, length-drop, length-append, length-set}
+use Rattle.std.proofs.Common.{◌≡◌, ◌∙◌, ap, ℕ, suc, ◌+◌, ◌-◌, ◌≤◌, ◌<◌, Bool, true, false, ◌&&◌, ◌||◌, is_some, if◌then◌else◌, List, [], ◌∷◌, ◌++◌, refl, sym, subst, drop, length, map, slice_get, set, Option, Some, None, Ok, Err, ◌⊎◌, inl, inr, pos, arith, add-zero, zero-add, add-one, nat_lt, length-drop, length-append, length-set}
 use Rattle.std.proofs.lemmas.List.{length-map, drop-append-le, map-append}
 use Rattle.std.proofs.lemmas.Bool.{ltb-true, ltb-false, lt-ltb, le-ltb, ne_eqb}
 use Rattle.std.proofs.lemmas.Option.{slice_get_within}
@@ -16,10 +16,9 @@ use Rattle.conn_rules.specs.declared.event.Fault.TheVariants as fault
 use Rattle.conn_rules.specs.declared.event.TakeFault.TheVariants as take_fault
 use Rattle.conn_rules.specs.declared.event.AnswerFault.TheVariants as answer_fault
 use Rattle.conn_rules.specs.declared.event.Emit.TheVariants as emit
-use Rattle.conn_rules.specs.Meaning.{Meaning}
-use Rattle.conn_rules.specs.State.{Outside, Body, NoResponse, Verdict, Request, Sent, State, opening, first_cause, below, cut_at, dead, halted, is_ending, is_dead, is_still, upstream_frame, upstream_id, found_id, due_send}
+use Rattle.conn_rules.specs.State.{Outside, Body, NoResponse, Verdict, Request, Sent, State, first_cause, below, cut_at, dead, halted, is_ending, is_dead, is_still, upstream_frame, upstream_id, found_id, due_send}
 use Rattle.conn_rules.specs.Settling.{Lists, acted, listed, next_act, Settles}
-use Rattle.conn_rules.specs.Steps.{hold_of, hold_in, open_hold, cause_at, response_of, response_in, silent_passed, over_or, told_again, emit_next, emit_step, matched, client_ended, faulted, noted, if_served, take_step, answer_step, answer_to, memory_answer, Step, GivesUp, May}
+use Rattle.conn_rules.specs.Steps.{hold_of, hold_in, open_hold, cause_at, response_of, response_in, silent_passed, over_or, told_again, emit_next, emit_step, matched, client_ended, faulted, noted, if_served, answer_to, memory_answer, May}
 use Rattle.conn_core.specs.Heartbeats.{heartbeats, heartbeat_status, is_heartbeat, answers_due, is_served, is_fault_served}
 use Rattle.conn_core.specs.Slots.{front_response, with_body}
 use Rattle.conn_core.specs.Kept.{Kept, emitted_of, taken_of, with_request, with_answer, cut_here, with_fault}

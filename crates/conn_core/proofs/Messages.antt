@@ -1,12 +1,11 @@
 -- Each request's message is among the sends, so the machine has nothing to do; a new request's is listed at once.
-use Rattle.std.proofs.Common.{◌≡◌, ◌≢◌, ◌∙◌, ap, ℕ, zero, suc, ◌+◌, ◌≤◌, ◌<◌, ◌==◌, Bool, true, false, ◌&&◌, ◌||◌, not, if◌then◌else◌, List, [], ◌∷◌, ◌++◌, refl, sym, subst, take, drop, length, Option, Some, None, ◌⊎◌, inl, inr, arith, add-zero, add-suc, suc-add}
+use Rattle.std.proofs.Common.{◌≡◌, ℕ, zero, suc, ◌+◌, ◌≤◌, ◌<◌, ◌==◌, Bool, true, false, ◌&&◌, ◌||◌, if◌then◌else◌, List, [], ◌∷◌, ◌++◌, refl, length, Option, Some, None, inl, inr, arith}
 use Rattle.std.proofs.lemmas.Bool.{ne_eqb}
 use Rattle.std.proofs.lemmas.Bool.Decides.{eqb_tells}
 use Rattle.std.specs.List.{list_any}
 use Rattle.kp_edge.specs.declared.end.End.{End}
-use Rattle.conn_rules.specs.Meaning.{Status, Waits, Done, Fails}
 use Rattle.conn_rules.specs.State.{Outside, Body, NoResponse, Verdict, Request, Sent, State, below}
-use Rattle.conn_rules.specs.Settling.{Act, Lists, is_listed, lets_pass, act_of, or_else, act_from, next_act}
+use Rattle.conn_rules.specs.Settling.{Act, Lists, is_listed, lets_pass, act_of, act_from, next_act}
 use Rattle.conn_core.specs.Heartbeats.{heartbeats, heartbeat_status}
 use Rattle.conn_core.specs.Stands.{message_of, messages_from, AtMostOneBody, GivenFirst}
 

@@ -1,14 +1,13 @@
 -- How requests, messages and slots change together.
-use Rattle.std.proofs.Common.{◌≡◌, ◌≢◌, ◌∙◌, ap, ℕ, zero, suc, ◌+◌, ◌-◌, ◌≤◌, ◌<◌, Bool, true, false, ◌&&◌, if◌then◌else◌, List, [], ◌∷◌, ◌++◌, refl, sym, subst, take, drop, length, map, slice_get, set, Option, Some, None, option_map, arith, add-zero, zero-add, add-suc, suc-add}
+use Rattle.std.proofs.Common.{◌≡◌, ap, ℕ, zero, suc, ◌+◌, ◌≤◌, ◌<◌, Bool, true, false, ◌&&◌, if◌then◌else◌, List, [], ◌∷◌, ◌++◌, refl, take, drop, length, map, slice_get, set, Option, Some, None, option_map, arith, add-zero, zero-add, add-suc, suc-add}
 use Rattle.std.proofs.lemmas.List.{drop-set-add, map-set}
 use Rattle.std.proofs.lemmas.Option.{slice_get-map}
 use Rattle.kp_edge.specs.declared.end.End.{End}
-use Rattle.conn_rules.specs.State.{Outside, Body, Request, Sent, State, below, upstream_frame, responding}
+use Rattle.conn_rules.specs.State.{Outside, Body, Request, Sent, below, upstream_frame, responding}
 use Rattle.conn_rules.specs.Steps.{response_in, silent_run}
-use Rattle.conn_core.specs.declared.slot.Slot.{Slot}
 use Rattle.conn_core.specs.Heartbeats.{heartbeats}
 use Rattle.conn_core.specs.Slots.{front_response}
-use Rattle.conn_core.specs.Stands.{slot_of, message_of, messages_from, frames_from, AtMostOneBody, GivenFirst}
+use Rattle.conn_core.specs.Stands.{slot_of, message_of, messages_from, frames_from, GivenFirst}
 
 -- what the requests were given
 pub given_past : (n : ℕ) (rs : List Request) (i : ℕ) (r : Request) → GivenFirst n rs → n ≤ i → slice_get rs i ≡ Some r → r.given ≡ []

@@ -1,13 +1,13 @@
 -- What is served today: Heartbeat, versions 0 to 3 (protocol guide, "The Messages: Heartbeat"). Each goes to the
 -- broker as it came but for its correlation id, and its answer comes back with the client's own.
-use Rattle.std.specs.Prelude.{◌≡◌, ℕ, ◌==◌, nat_le, ◌&&◌, ◌||◌, Bool, true, false, List, [], ◌∷◌, ◌++◌, take, drop, Option, Some, None, pos}
+use Rattle.std.specs.Prelude.{ℕ, ◌==◌, nat_le, ◌&&◌, ◌||◌, Bool, true, false, List, [], ◌∷◌, ◌++◌, take, drop, Option, Some, None, pos}
 use Rattle.std.specs.Int.{w16, from_be_bytes}
 use Rattle.std.specs.Ordering.{int_eq}
 use Rattle.conn_rules.specs.declared.event.Event.{Event}
 use Rattle.conn_rules.specs.declared.event.Event.TheVariants as event
 use Rattle.conn_rules.specs.declared.event.Fault.{Fault}
 use Rattle.conn_rules.specs.declared.event.Fault.TheVariants as fault
-use Rattle.conn_rules.specs.Meaning.{Meaning, Ask, ToBroker, Status, Waits, Done}
+use Rattle.conn_rules.specs.Meaning.{Meaning, ToBroker, Status, Waits, Done}
 use Rattle.conn_rules.specs.State.{Outside, Body, NoResponse, Verdict, Sent, State, is_ending, is_dead, sized, upstream_id, found_id, due_send}
 
 -- A request begins with INT16 request_api_key and INT16 request_api_version (protocol guide, request header).

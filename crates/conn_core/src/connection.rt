@@ -1,4 +1,4 @@
-ghost use Rattle.std.specs.Prelude.{◌≡◌, ◌+◌, ◌-◌, ◌<◌, ◌≤◌, ◌^◌, ◌||◌, ◌&&◌, length, drop, slice_get, is_some, is_ok, nat_lt, pos, OnOk, OnErr, Some, IsTrue, if◌then◌else◌};
+ghost use Rattle.std.specs.Prelude.{◌≡◌, ◌<◌, ◌≤◌, ◌^◌, ◌||◌, ◌&&◌, length, is_some, nat_lt, pos, OnOk, OnErr, Some};
 ghost use Rattle.std.specs.Ordering.{int_eq};
 ghost use Rattle.conn_rules.specs.State.{opening, below, first_cause, found_id, upstream_id};
 ghost use Rattle.conn_rules.specs.Steps.{cause_at, client_ended};
@@ -37,6 +37,7 @@ pub struct Core {
 }
 
 impl Core {
+    /// A connection to which nothing came yet.
     pub fn new(alloc: Global) -> Core
         ensures { Stands result opening }
     {
@@ -53,7 +54,8 @@ impl Core {
         }
     }
 
-    /// The client's next frame, without its size.
+    /// The client's next frame, without its size. Memory is wanting too where the message's size doesn't fit
+    /// INT32, or the count of requests 64 bits.
     pub fn take(&mut self, frame: Bytes) -> Result<(), TakeFault>
         requires { 8 ≤ length frame }
         ensures { Follows self.old (Event.Take frame) (Reply.Take result) self.new }
@@ -74,7 +76,8 @@ impl Core {
         }
     }
 
-    /// The broker's next frame, without its size.
+    /// The broker's next frame, without its size. Memory is wanting too where the response's size doesn't fit
+    /// INT32.
     pub fn answer(&mut self, frame: Bytes) -> Result<(), AnswerFault>
         requires { 4 ≤ length frame }
         ensures { Follows self.old (Event.Answer frame) (Reply.Answer result) self.new }

@@ -1,5 +1,4 @@
-ghost use Rattle.std.specs.Prelude.{◌≡◌, ◌+◌, ◌<◌, ◌≤◌, ◌^◌, ◌++◌, length, take, drop, pos, IfOk, nat_lt};
-ghost use Rattle.std.specs.Int.{w16, w32, from_be_bytes, to_be_bytes, cast_signed};
+ghost use Rattle.std.specs.Prelude.{◌≡◌, ◌+◌, ◌<◌, ◌≤◌, ◌^◌, ◌++◌, length, pos, IfOk};
 ghost use Rattle.conn_rules.specs.State.{sized, found_id, upstream_id};
 ghost use Rattle.conn_core.specs.Heartbeats.{is_heartbeat, client_id};
 

@@ -20,4 +20,4 @@ mod tests;
 
 pub use conn_rules::{AnswerFault, Emit, Fault, TakeFault};
 pub use connection::Core;
-pub use laws::heartbeats_law;
+pub use laws::{heartbeats_law, late_frames_law};

@@ -1,27 +1,23 @@
 -- The law of order. At every moment the requests that emit steps passed are done, and what was emitted is their
 -- responses, one after another.
-use Rattle.std.proofs.Common.{◌≡◌, ◌∙◌, ap, ℕ, zero, suc, ◌+◌, Bool, true, false, ◌&&◌, ◌||◌, is_some, not, if◌then◌else◌, List, [], ◌∷◌, ◌++◌, refl, sym, take, drop, length, append_assoc, Option, Some, None, Ok, Err, slice_get, pos, inl, inr, zero-add, add-one, suc-add}
+use Rattle.std.proofs.Common.{◌≡◌, ◌∙◌, ap, ℕ, zero, suc, ◌+◌, Bool, true, false, ◌&&◌, ◌||◌, is_some, if◌then◌else◌, List, [], ◌∷◌, ◌++◌, refl, sym, take, drop, length, append_assoc, Option, Some, None, Ok, slice_get, inl, inr, zero-add, add-one, suc-add}
 use Rattle.std.proofs.lemmas.List.{append-nil}
 use Rattle.std.specs.List.{flat_map}
-use Rattle.std.specs.Ordering.{int_eq}
 use Rattle.kp_edge.specs.declared.end.End.{End}
 use Rattle.kp_edge.specs.declared.end.End.TheVariants as end
 use Rattle.conn_rules.specs.declared.event.Event.{Event}
 use Rattle.conn_rules.specs.declared.event.Event.TheVariants as event
 use Rattle.conn_rules.specs.declared.event.Reply.{Reply}
 use Rattle.conn_rules.specs.declared.event.Reply.TheVariants as reply
-use Rattle.conn_rules.specs.declared.event.Fault.{Fault}
-use Rattle.conn_rules.specs.declared.event.Fault.TheVariants as fault
 use Rattle.conn_rules.specs.declared.event.Emit.TheVariants as emit
-use Rattle.conn_rules.specs.declared.event.TakeFault.TheVariants as take_fault
-use Rattle.conn_rules.specs.declared.event.AnswerFault.TheVariants as answer_fault
-use Rattle.conn_rules.specs.declared.event.CompleteFault.TheVariants as complete_fault
 use Rattle.conn_rules.specs.Meaning.{Meaning, Lasting, Status, Waits, Done, Fails}
-use Rattle.conn_rules.specs.State.{Body, Verdict, Request, Sent, State, opening, below, halted, is_ending, is_dead, is_still, in_flight, held, upstream_id, found_id, due_send}
+use Rattle.conn_rules.specs.State.{Request, State, opening, below, halted, is_ending, is_still, in_flight, held}
 use Rattle.conn_rules.specs.Settling.{Settles}
-use Rattle.conn_rules.specs.Steps.{joined, take_step, read_body, matched, attributed, answer_step, open_hold, is_hold, complete_step, client_end, faulted, noted, sent_next, first_hold, picked_next, response_of, response_in, silent_run, silent_passed, cause_at, over_or, respond_or, told_again, emit_step, if_served, answer_to, memory_answer, May}
+use Rattle.conn_rules.specs.Steps.{joined, response_of, response_in, silent_run, silent_passed, cause_at, over_or, respond_or, told_again, emit_step, answer_to, May}
 use Rattle.conn_rules.specs.History.{Entry, Runs, IsHistory, to_client, out, response_bytes, replies}
-use Rattle.conn_rules.proofs.Grows.{Later, Grows, Keeps, keeps_all, keeps_either, keeps_keeps, keeps_joined, keeps_give, keeps_settling}
+use Rattle.conn_rules.proofs.Grows.{Later, Grows}
+use Rattle.conn_rules.proofs.Keeps.{Keeps, keeps_same, keeps_joined, keeps_cut, keeps_halted, keeps_settling}
+use Rattle.conn_rules.proofs.Quiet.{Quiet, IsQuiet, quiet_event, memory_gives}
 
 -- the request has its response
 abbrev pub IsDone : Meaning → Request → List ℕ → Type 0
@@ -121,8 +117,8 @@ passes_either M s true x y h k = h
 passes_either M s false x y h k = k
 
 -- an answer that gives nothing and passes no request
-quiet : (M : Meaning) → Lasting M → (s : State) (answer : Reply × State) → AllDone M s.emitted s.requests → Keeps s answer.1 → to_client answer.0 ≡ [] → Passes M s answer
-quiet M lasting s answer done keeps none =
+passes_quiet : (M : Meaning) → Lasting M → (s : State) (joined : List (List ℕ)) (answer : Reply × State) → AllDone M s.emitted s.requests → Keeps s joined answer.1 → to_client answer.0 ≡ [] → Passes M s answer
+passes_quiet M lasting s joined answer done keeps none =
     let later : AllDone M s.emitted answer.1.requests = all_later M lasting s.emitted s.requests answer.1.requests keeps.requests done in
     let same : first_replies M s.emitted answer.1.requests ≡ first_replies M s.emitted s.requests = replies_later M lasting s.emitted s.requests answer.1.requests keeps.requests done in
     record { done = rw keeps.emitted later; replies = rw (keeps.emitted, same, none) (sym (append-nil (replies M s))) }
@@ -158,117 +154,57 @@ module _ (M : Meaning) (s : State) where
   passes_emit lasting done =
       let t : State = silent_passed M s in
       let silent : Passes M s (reply.Noted, t) = passes_silent lasting done in
-      let here : Passes M s (reply.Noted, s) = quiet M lasting s (reply.Noted, s) done (keeps_all s s refl refl) refl in
+      let here : Passes M s (reply.Noted, s) = passes_quiet M lasting s [] (reply.Noted, s) done (keeps_same s) refl in
       let later : Passes M s (reply.Emit emit.Later, t) = record { done = silent.done; replies = silent.replies } in
       passes_told s.over _ done
       (passes_over_or s.halt s _ here
       (passes_over_or (cause_at t.cut t.emitted) t _ silent
       (passes_respond_or _ t _ refl silent (passes_over_or s.death t _ silent later))))
 
--- the events that give the client nothing
+-- every event
 module _ (M : Meaning) (lasting : Lasting M) (s : State) (done : AllDone M s.emitted s.requests) where
-  passes_kept : (r : Reply) (t : State) → to_client r ≡ [] → Keeps s t → Passes M s (r, t)
-  passes_kept r t none keeps = quiet M lasting s (r, t) done keeps none
-
   passes_same : (r : Reply) → to_client r ≡ [] → Passes M s (r, s)
-  passes_same r none = passes_kept r s none (keeps_all s s refl refl)
+  passes_same r none = passes_quiet M lasting s [] (r, s) done (keeps_same s) none
 
-  passes_served : (e : Event) (taken : Reply) (step : Reply × State) → to_client taken ≡ [] → Passes M s step → Passes M s (if_served M s e taken step)
-  passes_served e taken step none h =
-      passes_either M s (is_still s || M.serves s e) step (taken, halted end.NotBuilt s) h (passes_kept taken _ none (keeps_all s _ refl refl))
+  passes_refusal : (why : Option (ℕ → End)) (frame : List ℕ) → Passes M s (reply.Take (Ok tt), joined why frame s)
+  passes_refusal None frame = passes_quiet M lasting s (frame ∷ []) _ done (keeps_joined frame s) refl
+  passes_refusal (Some why) frame = passes_quiet M lasting s [] _ done (keeps_cut (length s.requests) (why (length s.requests)) s) refl
 
-  keeps_refusal : (why : Option (ℕ → End)) (frame : List ℕ) → Keeps s (joined why frame s)
-  keeps_refusal None frame = keeps_joined _ s
-  keeps_refusal (Some why) frame = keeps_all s _ refl refl
-
-  passes_take : (frame : List ℕ) → Passes M s (take_step M s frame)
+  passes_take : (frame : List ℕ) → Passes M s (answer_to M s (event.Take frame))
   passes_take frame =
-      passes_either M s (is_ending s) _ _ (passes_same _ refl)
-      (passes_either M s (M.room (in_flight s) (held s) (length frame)) _ _ (passes_kept _ _ refl (keeps_refusal (M.refusal frame) frame)) (passes_same _ refl))
+      passes_either M s (is_still s || M.serves s (event.Take frame)) _ _
+      (passes_either M s (is_ending s) _ _ (passes_same _ refl)
+      (passes_either M s (M.room (in_flight s) (held s) (length frame)) _ _ (passes_refusal (M.refusal frame) frame) (passes_same _ refl)))
+      (passes_quiet M lasting s [] _ done (keeps_halted end.NotBuilt s) refl)
 
-  keeps_body : (why : Option (ℕ → End)) (k : ℕ) (body : List ℕ) (t : State) → Keeps s t → Keeps s (read_body why k body t)
-  keeps_body None k body t h = keeps_keeps s t _ h (keeps_give k (Body body) t)
-  keeps_body (Some why) k body t h = record { requests = h.requests; emitted = h.emitted }
-
-  keeps_matched : (d : Sent) (body : List ℕ) → Keeps s (matched M s d body)
-  keeps_matched d body =
-      let t : State = record s { answered = s.answered + 1 } in
-      let here : Keeps s t = keeps_all s t refl refl in
-      keeps_either (below s.cut d.request) s _ t (keeps_body (M.unreadable d.before body) d.request body t here) here
-
-  keeps_attributed : (frame : List ℕ) (due : Option (ℕ × Sent)) → Keeps s (attributed M s frame due)
-  keeps_attributed frame None = keeps_all s _ refl refl
-  keeps_attributed frame (Some due) =
-      keeps_either (int_eq (found_id frame) (pos (upstream_id due.0))) s _ _ (keeps_matched due.1 (drop 4 frame)) (keeps_all s _ refl refl)
-
-  passes_answer : (frame : List ℕ) → Passes M s (answer_step M s frame)
-  passes_answer frame = passes_either M s (is_dead s) _ _ (passes_same _ refl) (passes_kept _ _ refl (keeps_attributed frame (due_send s)))
-
-  passes_complete : (k i : ℕ) (verdict : List ℕ) → Passes M s (complete_step M s k i verdict)
-  passes_complete k i verdict =
-      passes_either M s (not (is_still s) && is_hold i (open_hold M s k)) _ _ (passes_kept _ _ refl (keeps_give k (Verdict verdict) s)) (passes_same _ refl)
-
-  passes_noted : (t : State) → Keeps s t → Passes M s (noted s t)
-  passes_noted t h = passes_kept reply.Noted _ refl (keeps_either (is_some s.over) s s t (keeps_all s s refl refl) h)
-
-  keeps_client_end : (rest : ℕ) → Keeps s (client_end rest s)
-  keeps_client_end rest = keeps_either (is_some s.death) s s _ (keeps_all s s refl refl) (keeps_all s _ refl refl)
-
-  keeps_fault : (x : Fault) → Keeps s (faulted M s x)
-  keeps_fault fault.ClientRead = keeps_all s _ refl refl
-  keeps_fault fault.ClientWrite = keeps_all s _ refl refl
-  keeps_fault fault.BrokerRead = keeps_all s _ refl refl
-  keeps_fault fault.BrokerWrite = keeps_all s _ refl refl
-  keeps_fault (fault.ClientBadSize at size) = keeps_all s _ refl refl
-  keeps_fault (fault.BrokerBadSize at size) = keeps_all s _ refl refl
-  keeps_fault (fault.Authority k) = keeps_either (is_some (open_hold M s k)) s _ s (keeps_all s _ refl refl) (keeps_all s s refl refl)
-  keeps_fault fault.Thread = keeps_all s _ refl refl
-  keeps_fault fault.NoMemory = keeps_all s _ refl refl
-
-  passes_sent : (next : Option Sent) → Passes M s (sent_next s next)
-  passes_sent None = passes_same _ refl
-  passes_sent (Some d) = passes_kept _ _ refl (keeps_all s _ refl refl)
-
-  passes_picked : (hold : Option (ℕ × ℕ × List ℕ)) → Passes M s (picked_next s hold)
-  passes_picked None = passes_same _ refl
-  passes_picked (Some hold) = passes_kept _ _ refl (keeps_all s _ refl refl)
+  passes_silently : (e : Event) → IsQuiet e → Passes M s (answer_to M s e)
+  passes_silently e is =
+      let quiet : Quiet s (answer_to M s e) = quiet_event M s e is in
+      passes_quiet M lasting s [] (answer_to M s e) done quiet.keeps quiet.silent
 
   passes_answered : (e : Event) → Passes M s (answer_to M s e)
-  passes_answered (event.Take frame) = passes_served (event.Take frame) _ _ refl (passes_take frame)
-  passes_answered (event.Answer frame) = passes_served (event.Answer frame) _ _ refl (passes_answer frame)
-  passes_answered (event.Complete k i verdict) = passes_complete k i verdict
-  passes_answered (event.ClientEnd rest) = passes_served (event.ClientEnd rest) _ _ refl (passes_noted _ (keeps_client_end rest))
-  passes_answered (event.BrokerEnd rest) = passes_served (event.BrokerEnd rest) _ _ refl (passes_noted _ (keeps_all s _ refl refl))
-  passes_answered (event.Fault x) = passes_served (event.Fault x) _ _ refl (passes_noted _ (keeps_fault x))
-  passes_answered event.Send = passes_either M s (is_some s.death || is_some s.halt) _ _ (passes_same _ refl) (passes_sent (slice_get s.sends s.taken))
+  passes_answered (event.Take frame) = passes_take frame
+  passes_answered (event.Answer frame) = passes_silently (event.Answer frame) tt
+  passes_answered (event.Complete k i verdict) = passes_silently (event.Complete k i verdict) tt
+  passes_answered (event.ClientEnd rest) = passes_silently (event.ClientEnd rest) tt
+  passes_answered (event.BrokerEnd rest) = passes_silently (event.BrokerEnd rest) tt
+  passes_answered (event.Fault x) = passes_silently (event.Fault x) tt
+  passes_answered event.Send = passes_silently event.Send tt
   passes_answered event.Emit = passes_emit M s lasting done
-  passes_answered event.Pick = passes_either M s (is_still s) _ _ (passes_same _ refl) (passes_picked (first_hold M s.cut s.picked 0 s.requests))
-  passes_answered event.Look = passes_same _ refl
+  passes_answered event.Pick = passes_silently event.Pick tt
+  passes_answered event.Look = passes_silently event.Look tt
 
   -- settling passes none
   passes_settled : (answer : Reply × State) (t : State) → Passes M s answer → Settles M answer.1 t → Passes M s (answer.0, t)
   passes_settled answer t h settles =
-      let keeps : Keeps answer.1 t = keeps_settling M answer.1 t settles in
-      let next : Passes M answer.1 (reply.Noted, t) = quiet M lasting answer.1 (reply.Noted, t) h.done keeps refl in
+      let keeps : Keeps answer.1 [] t = keeps_settling M answer.1 t settles in
+      let next : Passes M answer.1 (reply.Noted, t) = passes_quiet M lasting answer.1 [] (reply.Noted, t) h.done keeps refl in
       record { done = next.done; replies = next.replies ∙ (append-nil (replies M answer.1) ∙ h.replies) }
-
-  -- want of memory gives the client nothing
-  memory_gives : (r taken : Reply) → memory_answer taken ≡ Some r → to_client r ≡ []
-  memory_gives r (reply.Take (Ok _)) h = let e : r ≡ reply.Take (Err take_fault.NoMemory) = cc in rw e
-  memory_gives r (reply.Take (Err _)) h = cc
-  memory_gives r (reply.Answer (Ok _)) h = let e : r ≡ reply.Answer (Err answer_fault.NoMemory) = cc in rw e
-  memory_gives r (reply.Answer (Err _)) h = cc
-  memory_gives r (reply.Complete (Ok _)) h = let e : r ≡ reply.Complete (Err complete_fault.NoMemory) = cc in rw e
-  memory_gives r (reply.Complete (Err _)) h = cc
-  memory_gives r reply.Noted h = cc
-  memory_gives r (reply.Send _) h = cc
-  memory_gives r (reply.Emit _) h = cc
-  memory_gives r (reply.Pick _) h = cc
-  memory_gives r (reply.Look _) h = cc
 
   passes_event : (e : Event) (r : Reply) (t : State) → May M s e r t → Passes M s (r, t)
   passes_event e r t (inl h) = rw h.reply (passes_settled (answer_to M s e) t (passes_answered e) h.settles)
-  passes_event e r t (inr h) = rw h.halts (passes_kept r _ (memory_gives r (answer_to M s e).0 h.reply) (keeps_all s _ refl refl))
+  passes_event e r t (inr h) =
+      rw h.halts (passes_quiet M lasting s [] (r, halted end.NoMemory s) done (keeps_halted end.NoMemory s) (memory_gives r (answer_to M s e).0 h.reply))
 
 -- over a run from any state whose passed requests are done
 order_from : (M : Meaning) → Lasting M → (s t : State) (hs : List Entry) → AllDone M s.emitted s.requests → Runs M s hs t → replies M t ≡ replies M s ++ out hs

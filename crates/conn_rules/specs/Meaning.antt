@@ -1,8 +1,9 @@
 -- What a request means. The machine of a connection is the same for every meaning, and so is its law of order.
-use Rattle.std.specs.Prelude.{◌≡◌, ℕ, Bool, true, List, [], ◌++◌, Option}
+use Rattle.std.specs.Prelude.{◌≡◌, ℕ, Bool, true, List, [], ◌++◌, Option, IsTrue}
 use Rattle.kp_edge.specs.declared.end.End.{End}
 use Rattle.conn_rules.specs.declared.event.Event.{Event}
-use Rattle.conn_rules.specs.State.{Outside, State}
+use Rattle.conn_rules.specs.declared.event.Event.TheVariants as event
+use Rattle.conn_rules.specs.State.{Outside, State, is_ending}
 
 -- What a request waits for.
 pub data Ask : Type 0 where
@@ -38,3 +39,7 @@ pub record Meaning : Type 0 where
 pub record Lasting (M : Meaning) : Type 0 where
   pub stays : (frame : List ℕ) (given more : List Outside) (response : List ℕ) → M.status frame given ≡ Done response → M.status frame (given ++ more) ≡ Done response
   pub silence : (frame : List ℕ) (given : List Outside) (response : List ℕ) → M.silent frame ≡ true → M.status frame given ≡ Done response → response ≡ []
+
+-- What the law of requests asks of a meaning: a frame that comes too late is refused as the rules say.
+abbrev pub ServesLate : Meaning → Type 0
+ServesLate M = (s : State) (frame : List ℕ) → IsTrue (is_ending s) → IsTrue (M.serves s (event.Take frame))

@@ -12,4 +12,4 @@ mod event;
 mod laws;
 
 pub use event::{AnswerFault, CompleteFault, Emit, Event, Fault, Look, Reply, TakeFault, Ticket};
-pub use laws::order_law;
+pub use laws::{end_stays_law, order_law, requests_law};

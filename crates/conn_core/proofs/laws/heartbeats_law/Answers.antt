@@ -1,5 +1,5 @@
 use Rattle.std.proofs.Common.{◌≡◌, List, [], ◌∷◌, ◌++◌, ℕ}
-use Rattle.conn_rules.specs.Meaning.{Status, Done}
+use Rattle.conn_rules.specs.Meaning.{Done}
 use Rattle.conn_rules.specs.State.{Outside, Body, NoResponse, Verdict}
 use Rattle.conn_core.specs.Heartbeats.{heartbeat_status}
 use Rattle.conn_core.proofs.laws.heartbeats_law.Goals as goal

@@ -1,7 +1,5 @@
-use Rattle.std.proofs.Common.{◌≡◌, ◌&&◌, true, false, nat_lt, pos}
-use Rattle.std.specs.Ordering.{int_eq}
-use Rattle.conn_rules.specs.State.{found_id, upstream_id}
-use Rattle.conn_core.specs.Kept.{kept, taken_of}
+use Rattle.std.proofs.Common.{◌≡◌, true, false}
+use Rattle.conn_core.specs.Kept.{kept}
 use Rattle.conn_core.proofs.Events.{is_due, answer_refused, answer_not_built, answer_given, answer_no_memory}
 use Rattle.conn_core.proofs.connection.Core.answer.Goals as goal
 

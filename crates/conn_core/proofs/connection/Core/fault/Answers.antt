@@ -1,4 +1,4 @@
-use Rattle.std.proofs.Common.{◌≡◌, ◌⊎◌, inl, inr, true, is_some, sym}
+use Rattle.std.proofs.Common.{◌≡◌, ◌⊎◌, inl, inr, true, is_some}
 use Rattle.conn_core.specs.Heartbeats.{is_fault_served}
 use Rattle.conn_core.specs.Kept.{kept}
 use Rattle.conn_core.proofs.Events.{fault_over, fault_not_built, fault_step}
