@@ -1,0 +1,13 @@
+pub mod Machine
+pub mod Happenings
+pub mod Outputs
+pub mod Pieces
+pub mod Answering
+pub mod LineCuts
+pub mod Reading
+pub mod Going
+pub mod Scripting
+pub mod Concluding
+pub mod Opening
+pub mod Rising
+pub mod Word

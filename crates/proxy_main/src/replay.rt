@@ -1,0 +1,123 @@
+ghost use Rattle.std.specs.Prelude.{◌≡◌, ◌++◌, ◌+◌, ◌<◌, ◌≤◌, [], ◌∷◌, length, take, IfOk, OnOk, OnErr, IsErrOf};
+ghost use Rattle.proxy_main.specs.Scripts.{line_limit};
+
+use crate::lines::{LINE_LIMIT, put_answer, read};
+use crate::station::Station;
+use crate::stop::LineStop;
+use conn_core::heartbeats_law;
+use conn_rules::order_law;
+use kp_edge::NoMemory;
+use memchr::memchr;
+use std::alloc::Global;
+use std::mem;
+use wire_types::Writer;
+
+// A script on its way: a connection, and the bytes of a line that hasn't ended.
+#[derive(Drop)]
+pub(crate) struct Replay {
+    pub(crate) alloc: Global,
+    pub(crate) station: Station,
+    // The answers that wait to be written.
+    pub(crate) answers: Writer,
+    // What came of a line that hasn't ended: as much as a line may have, and one byte more.
+    pub(crate) partial: Vec<u8>,
+    // How many lines were answered.
+    pub(crate) lines: u64,
+}
+
+impl Replay {
+    ghost use Rattle.proxy_main.specs.Scripts.{IsBad};
+    ghost use Rattle.proxy_main.specs.Run.{Reading, Answers, Advances, Stumbles, Ends, EndsBadly, Finishes, FinishesBadly};
+
+    pub(crate) fn new(alloc: Global) -> Replay
+        ensures start { Reading result [] [] }
+        ensures pending { result.answers ≡ [] }
+    {
+        Replay {
+            alloc,
+            station: Station::new(alloc),
+            answers: Writer::new(alloc),
+            partial: Vec::new(alloc),
+            lines: 0,
+        }
+    }
+
+    // Takes the bytes up to the end of the first line, or all where none ends.
+    pub(crate) fn advance(&mut self, bytes: &[u8]) -> Result<usize, LineStop>
+        requires { 0 < length bytes.now }
+        ensures bound { IfOk result (λ n. (0 < n) × (n ≤ length bytes.now)) }
+        ensures ok { IfOk result (λ n. Advances self.old (take n bytes.now) self.new) }
+        ensures bad { IsErrOf result LineStop.BadLine → Stumbles self.old bytes.now self.new }
+        ensures err { OnErr result (self.new.answers ≡ self.old.answers) }
+    {
+        match memchr(b'\n', bytes) {
+            Some(end) => match self.end_line(bytes.split_at(end).0) {
+                Ok(()) => Ok(end + 1),
+                Err(stop) => Err(stop),
+            },
+            None => {
+                keep(&mut self.partial, bytes)?;
+                Ok(bytes.len())
+            }
+        }
+    }
+
+    // Answers the last line, where it isn't empty.
+    pub(crate) fn finish(&mut self) -> Result<(), LineStop>
+        ensures ok { OnOk result (Finishes self.old self.new) }
+        ensures bad { IsErrOf result LineStop.BadLine → FinishesBadly self.old self.new }
+        ensures err { OnErr result (self.new.answers ≡ self.old.answers) }
+    {
+        if self.partial.is_empty() {
+            return Ok(());
+        }
+        let line = mem::replace(&mut self.partial, Vec::new(self.alloc));
+        self.answer(line.as_slice())
+    }
+
+    // A line ends with this piece.
+    fn end_line(&mut self, piece: &[u8]) -> Result<(), LineStop>
+        ensures ok { OnOk result (Ends self.old piece.now self.new) }
+        ensures bad { IsErrOf result LineStop.BadLine → EndsBadly self.old piece.now self.new }
+        ensures err { OnErr result (self.new.answers ≡ self.old.answers) }
+    {
+        if self.partial.is_empty() {
+            return self.answer(piece);
+        }
+        keep(&mut self.partial, piece)?;
+        let line = mem::replace(&mut self.partial, Vec::new(self.alloc));
+        self.answer(line.as_slice())
+    }
+
+    // Answers one line.
+    fn answer(&mut self, line: &[u8]) -> Result<(), LineStop>
+        ensures ok { OnOk result (Answers self.old line.now self.new) }
+        ensures within { OnOk result (length line.now ≤ line_limit) }
+        ensures bad { IsErrOf result LineStop.BadLine → IsBad line.now }
+        ensures same { IsErrOf result LineStop.BadLine → self.new ≡ self.old }
+        ensures err { OnErr result (self.new.answers ≡ self.old.answers) }
+        ensures partial { self.new.partial.items ≡ self.old.partial.items }
+    {
+        let said = read(self.alloc, line)?;
+        let Some(lines) = self.lines.checked_add(1) else {
+            return Err(LineStop::NoMemory);
+        };
+        order_law();
+        heartbeats_law();
+        let answer = self.station.perform(said)?;
+        put_answer(&mut self.answers, &answer)?;
+        self.lines = lines;
+        Ok(())
+    }
+}
+
+// Keeps the piece of a line, as far as it tells how long the line is.
+fn keep(partial: &mut Vec<u8>, piece: &[u8]) -> Result<(), NoMemory>
+    ensures ok { OnOk result (length partial.old.items ≤ line_limit + 1
+        → partial.new.items ≡ take (line_limit + 1) (partial.old.items ++ piece.now)) }
+{
+    let room = (LINE_LIMIT + 1).saturating_sub(partial.len());
+    let kept = room.min(piece.len());
+    partial.extend_from_slice(piece.split_at(kept).0)?;
+    Ok(())
+}
