@@ -6,14 +6,16 @@ ghost use Rattle.framing.specs.Cuts.{Cuts};
 
 /// A stream is cut in one way.
 pub fn one_cut()
-    ensures { (least most : ℕ) (stream : List ℕ) (frames others : List (List ℕ)) (tail rest : List ℕ)
+    ensures { (least most : ℕ) (stream : List ℕ)
+        (frames others : List (List ℕ)) (tail rest : List ℕ)
         → Cuts least most stream frames tail → Cuts least most stream others rest
         → (frames ≡ others) × (tail ≡ rest) }
 {}
 
 /// The cut of a stream is that of its pieces, wherever they end.
 pub fn cut_in_pieces()
-    ensures { (least most : ℕ) (stream piece : List ℕ) (frames more : List (List ℕ)) (tail rest : List ℕ)
+    ensures { (least most : ℕ) (stream piece : List ℕ)
+        (frames more : List (List ℕ)) (tail rest : List ℕ)
         → Cuts least most stream frames tail → Cuts least most (tail ++ piece) more rest
         → Cuts least most (stream ++ piece) (frames ++ more) rest }
 {}

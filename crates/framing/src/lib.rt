@@ -2,13 +2,14 @@
 //! Structure" of the protocol guide).
 //!
 //! ```text
-//!   pieces as they come      |  5 bytes  |   70 bytes      | 2 |
-//!   frames on the stream     [size|frame][size|   frame   ][size|fra
-//!                            ^ given     ^ given           ^ at, rest: not given yet
+//!   pieces, as they come    |         |                   |             |
+//!   the stream              [size|frame ][size|    frame      ][size|fra
+//!                            given        given                ^ at     rest is from here on
 //! ```
 //!
-//! A [`Framer`] is fed with pieces and gives frames. It reads no socket, knows nothing of what a
-//! frame holds, and never ends a stream by itself: a bad size is an answer, and the caller decides.
+//! A [`Framer`] is fed with pieces and gives frames. [`RequestHead`] and [`ResponseHead`] read and
+//! write what a frame begins with. The crate reads no socket and no body, and never ends a stream by
+//! itself: a bad size is an answer, and the caller decides.
 #![tactic(auto)]
 
 mod framer;
