@@ -21,7 +21,9 @@ mod response_head;
 
 pub use framer::Framer;
 pub use head_fault::HeadFault;
-pub use laws::{bad_size_stays, cut_in_pieces, each_stream_has_a_cut, frame_or_tail, one_cut};
+pub use laws::{
+    bad_size_stays, cut_in_pieces, each_stream_has_a_cut, frame_or_tail, frames_of_a_run, one_cut,
+};
 pub use next::Next;
 pub use request_head::{RequestHead, start};
 pub use response_head::ResponseHead;
