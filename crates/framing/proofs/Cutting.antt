@@ -1,18 +1,18 @@
 -- A stream is cut in one way, whatever the pieces.
-use Rattle.std.proofs.Common.{◌≡◌, ℕ, zero, suc, ◌+◌, ◌<◌, ◌≤◌, ◌^◌, ◌⊎◌, inl, inr, false, ltb, List, [], ◌∷◌, ◌++◌, length, get_or, take, drop, All, Bool, true, Option, Some, subst, refl, sym, ap, ◌∙◌, append_assoc, arith, ℤ, pos, negsuc, w32, to_z, of_z, FitsSigned}
+use Rattle.std.proofs.Common.{◌≡◌, ℕ, zero, suc, ◌+◌, ◌<◌, ◌≤◌, ◌^◌, ◌⊎◌, inl, inr, false, ltb, List, [], ◌∷◌, ◌++◌, length, get_or, take, drop, All, true, Option, Some, subst, refl, sym, ap, ◌∙◌, append_assoc, arith, ℤ, pos, negsuc, w32, to_z, of_z, FitsSigned}
 use Rattle.std.specs.Prelude.{IsSome}
 use Rattle.std.specs.Int.{cast_signed, from_be_bytes, to_be_bytes}
 use Rattle.std.specs.List.{flat_map, AllByRecursion}
 use Rattle.std.proofs.lemmas.Bool.{cases_lt, lt-ltb, le-ltb}
 use Rattle.std.proofs.lemmas.Int.{to_z_pos, to_z-of_z, of_z-to_z}
 use Rattle.std.proofs.Math.Facts.{sfits_to_z}
-use Rattle.std.proofs.lemmas.List.{length-append, length-take, length-drop, take-append-drop, take_at, drop_at, get_or-take, get_or_past, get_or_append_left}
+use Rattle.std.proofs.lemmas.List.{length-append, length-take, take-append-drop, take_at, drop_at, get_or-take, get_or_past, get_or_append_left}
 use Rattle.std.proofs.lemmas.List.Concat.{flat_map-cons}
 use Rattle.std.proofs.lemmas.List.Elements.{All-append, All-nil, All-cons, recursion_from_All, All-drop}
 use Rattle.std.proofs.lemmas.Grind.{flat_map-append}
 use Rattle.std.proofs.lemmas.Nat.{be_bytes_4, from_be_bytes-to_be_bytes_4}
 use Rattle.wire_types.specs.Numbers.{int32}
-use Rattle.framing.specs.Frames.{sized, IsFrame, BeginsFrame, IsTail, IsPartial, IsCutShort, size_at, bad_size, outside}
+use Rattle.framing.specs.Frames.{sized, IsFrame, BeginsFrame, IsTail, size_at, bad_size, outside}
 use Rattle.framing.specs.Cuts.{Cuts}
 use Rattle.framing.proofs.Fronts.{fronts, begins_frame}
 

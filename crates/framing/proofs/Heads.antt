@@ -1,10 +1,10 @@
 -- What the head of a request is, and where its parts stand.
-use Rattle.std.proofs.Common.{◌≡◌, ℕ, zero, ◌+◌, ◌-◌, ◌<◌, ◌≤◌, List, ◌++◌, length, take, drop, Option, Some, None, refl, sym, ap, ◌∙◌, arith, ℤ, pos}
-use Rattle.std.specs.Prelude.{slice_range}
-use Rattle.std.proofs.lemmas.List.{length-append, length-drop, drop-drop, take_rest, take_at, drop_at}
+use Rattle.std.proofs.Common.{◌≡◌, ℕ, ◌+◌, ◌-◌, ◌≤◌, List, ◌++◌, length, drop, Option, Some, None, refl, sym, ap, ◌∙◌, arith, ℤ, pos}
+use Rattle.std.proofs.lemmas.List.{length-append, length-drop, drop-drop, take_at, drop_at}
 use Rattle.wire_types.specs.Numbers.{int16}
 use Rattle.wire_types.specs.Strings.{string, IsString}
 use Rattle.wire_types.specs.Reading.{Reading, Reads, unread}
+use Rattle.framing.specs.declared.request_head.RequestHead.{RequestHead}
 use Rattle.framing.specs.Heads.{Starts, IsRequest, EndsAt}
 
 -- a STRING was read behind the first eight bytes
@@ -20,9 +20,9 @@ text_then_body frame old new text r =
     let behind : unread new ≡ drop (8 + new.at) frame = rw (r.reads.same, r.bytes) (drop-drop new.at 8 frame) in
     sym front ∙ r.reads.spelled ∙ ap (λ (x : List ℕ). string text ++ x) behind
 
-pub is_request : (frame body : List ℕ) (key version correlation_id : ℤ) (old new : Reading) (text : Option (List ℕ)) → Starts frame key version correlation_id (drop 8 frame) → ReadsText frame old new text → IsString text → body ≡ drop (8 + new.at) frame → IsRequest frame key version correlation_id text body
-is_request frame body key version correlation_id old new text start r fits e =
-    let rest : drop 8 frame ≡ string text ++ body = text_then_body frame old new text r ∙ ap (λ (x : List ℕ). string text ++ x) (sym e) in
+pub is_request : (frame body : List ℕ) (head : RequestHead) (old new : Reading) → Starts frame head.key head.version head.correlation_id (drop 8 frame) → ReadsText frame old new head.client_id → IsString head.client_id → body ≡ drop (8 + new.at) frame → IsRequest frame head body
+is_request frame body head old new start r fits e =
+    let rest : drop 8 frame ≡ string head.client_id ++ body = text_then_body frame old new head.client_id r ∙ ap (λ (x : List ℕ). string head.client_id ++ x) (sym e) in
     record { starts = rw (← rest) start; is_string = fits }
 
 pub ends_at : (frame : List ℕ) (old new : Reading) (text : Option (List ℕ)) → 8 ≤ length frame → ReadsText frame old new text → EndsAt frame (8 + new.at) text
@@ -44,17 +44,17 @@ same_behind text x y e =
     sym (drop_at text x (length text) refl) ∙ ap (drop (length text)) e ∙ drop_at text y (length text) refl
 
 -- what the reader stood at, where the frame is a request
-pub stood_at : (frame : List ℕ) (old new : Reading) (text : Option (List ℕ)) (key version correlation_id : ℤ) (client_id : Option (List ℕ)) (body : List ℕ) → ReadsText frame old new text → IsRequest frame key version correlation_id client_id body → unread old ≡ string client_id ++ body
-stood_at frame old new text key version correlation_id client_id body r q =
+pub stood_at : (frame : List ℕ) (old new : Reading) (text : Option (List ℕ)) (head : RequestHead) (body : List ℕ) → ReadsText frame old new text → IsRequest frame head body → unread old ≡ string head.client_id ++ body
+stood_at frame old new text head body r q =
     let front : unread old ≡ drop 8 frame = rw (r.at, r.bytes) refl in
-    front ∙ rest_is frame key version correlation_id (string client_id ++ body) q.starts
+    front ∙ rest_is frame head.key head.version head.correlation_id (string head.client_id ++ body) q.starts
 
 -- the body that follows the text is the request's
-pub same_body : (frame : List ℕ) (old new : Reading) (text : Option (List ℕ)) (key version correlation_id : ℤ) (client_id : Option (List ℕ)) (body : List ℕ) → ReadsText frame old new text → IsRequest frame key version correlation_id client_id body → text ≡ client_id → drop (8 + new.at) frame ≡ body
-same_body frame old new text key version correlation_id client_id body r q e =
-    let both : string client_id ++ drop (8 + new.at) frame ≡ string client_id ++ body =
-    ap (λ (t : Option (List ℕ)). string t ++ drop (8 + new.at) frame) (sym e) ∙ sym (text_then_body frame old new text r) ∙ rest_is frame key version correlation_id (string client_id ++ body) q.starts in
-    same_behind (string client_id) (drop (8 + new.at) frame) body both
+pub same_body : (frame : List ℕ) (old new : Reading) (text : Option (List ℕ)) (head : RequestHead) (body : List ℕ) → ReadsText frame old new text → IsRequest frame head body → text ≡ head.client_id → drop (8 + new.at) frame ≡ body
+same_body frame old new text head body r q e =
+    let both : string head.client_id ++ drop (8 + new.at) frame ≡ string head.client_id ++ body =
+    ap (λ (t : Option (List ℕ)). string t ++ drop (8 + new.at) frame) (sym e) ∙ sym (text_then_body frame old new text r) ∙ rest_is frame head.key head.version head.correlation_id (string head.client_id ++ body) q.starts in
+    same_behind (string head.client_id) (drop (8 + new.at) frame) body both
 
 some_is : (a b : ℤ × ℤ × ℤ) → Some a ≡ Some b → a ≡ b
 some_is a b e = cc

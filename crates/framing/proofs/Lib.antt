@@ -1,3 +1,4 @@
 pub mod Fronts
 pub mod Cutting
 pub mod Heads
+pub mod Runs

@@ -1,8 +1,8 @@
 -- What is said of one answer of a framer.
-use Rattle.std.specs.Prelude.{◌≡◌, ℕ, ◌+◌, ℤ, List, ◌++◌, length, Option, Some, Result, Ok, Err}
+use Rattle.std.specs.Prelude.{◌≡◌, ℕ, ◌+◌, ℤ, List, ◌++◌, length, Result, Ok, Err}
 use Rattle.framing.specs.declared.next.Next.{Next}
 use Rattle.framing.specs.declared.next.Next.TheVariants.{Frame, Wait, BadSize}
-use Rattle.framing.specs.Frames.{sized, IsFrame, bad_size}
+use Rattle.framing.specs.Frames.{sized, IsFrame}
 use Rattle.framing.specs.Feed.{Feed}
 
 -- the frame was at the front behind its size, and is there no more

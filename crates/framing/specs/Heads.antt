@@ -3,6 +3,8 @@ use Rattle.std.specs.Prelude.{◌≡◌, ℕ, ◌-◌, ◌<◌, ◌≤◌, ◌�
 use Rattle.std.specs.Int.{w16, w32}
 use Rattle.wire_types.specs.Numbers.{int16, int32, int16_at}
 use Rattle.wire_types.specs.Strings.{string, IsString}
+use Rattle.framing.specs.declared.request_head.RequestHead.{RequestHead}
+use Rattle.framing.specs.declared.response_head.ResponseHead.{ResponseHead}
 use Rattle.wire_types.specs.Reading.{need, IsBadLength}
 
 -- api_key INT16, api_version INT16, correlation_id INT32
@@ -10,8 +12,8 @@ abbrev pub request_start : ℤ → ℤ → ℤ → List ℕ
 request_start key version correlation_id = int16 key ++ int16 version ++ int32 correlation_id
 
 -- the start, and client_id STRING
-abbrev pub request_head : ℤ → ℤ → ℤ → Option (List ℕ) → List ℕ
-request_head key version correlation_id client_id = request_start key version correlation_id ++ string client_id
+abbrev pub request_head : RequestHead → List ℕ
+request_head head = request_start head.key head.version head.correlation_id ++ string head.client_id
 
 -- a request's frame, without its size, is this start and then this rest
 pub record Starts (frame : List ℕ) (key version correlation_id : ℤ) (rest : List ℕ) : Type 0 where
@@ -21,18 +23,22 @@ pub record Starts (frame : List ℕ) (key version correlation_id : ℤ) (rest : 
   pub spelled : frame ≡ request_start key version correlation_id ++ rest
 
 -- it is this head and then this body
-pub record IsRequest (frame : List ℕ) (key version correlation_id : ℤ) (client_id : Option (List ℕ)) (body : List ℕ) : Type 0 where
-  pub starts : Starts frame key version correlation_id (string client_id ++ body)
-  pub is_string : IsString client_id
+pub record IsRequest (frame : List ℕ) (head : RequestHead) (body : List ℕ) : Type 0 where
+  pub starts : Starts frame head.key head.version head.correlation_id (string head.client_id ++ body)
+  pub is_string : IsString head.client_id
 
 -- what stands behind the start is no STRING: it is too short for one, or has a bad length
 abbrev pub HasBadClientId : List ℕ → Type 0
 HasBadClientId frame = (8 ≤ length frame) × ((length (drop 8 frame) < need 2 (int16_at (drop 8 frame))) ⊎ IsBadLength (int16_at (drop 8 frame)))
 
+-- correlation_id INT32
+abbrev pub response_head : ResponseHead → List ℕ
+response_head head = int32 head.correlation_id
+
 -- a response's frame, without its size, is this head and then this body
-pub record IsResponse (frame : List ℕ) (correlation_id : ℤ) (body : List ℕ) : Type 0 where
-  pub id_fits : FitsSigned w32 correlation_id
-  pub spelled : frame ≡ int32 correlation_id ++ body
+pub record IsResponse (frame : List ℕ) (head : ResponseHead) (body : List ℕ) : Type 0 where
+  pub id_fits : FitsSigned w32 head.correlation_id
+  pub spelled : frame ≡ response_head head ++ body
 
 -- a text stands in the bytes, and ends before this place
 abbrev pub EndsAt : List ℕ → ℕ → Option (List ℕ) → Type 0

@@ -1,4 +1,4 @@
-ghost use Rattle.std.specs.Prelude.{◌≡◌, ℕ, ◌+◌, ◌<◌, ◌≤◌, ◌^◌, ◌↔◌, ℤ, pos, [], ◌++◌, length, take, drop, Some, IfSome, IfNone, IfOk, OnOk, OnErr};
+ghost use Rattle.std.specs.Prelude.{◌≡◌, ℕ, ◌+◌, ◌<◌, ◌≤◌, ◌^◌, ◌↔◌, ℤ, pos, [], ◌++◌, length, take, drop, Some, IfSome, IfNone, IsOk, IfOk, OnOk, OnErr};
 ghost use Rattle.wire_types.specs.Numbers.{int32};
 ghost use Rattle.framing.specs.Frames.{BeginsFrame, IsPartial, bad_size, size_at, outside};
 ghost use Rattle.framing.specs.Answers.{TakesFrame, IfFrame, UnlessFrame, IfBadSize};
@@ -34,12 +34,17 @@ impl Model for Framer {
 
     ghost Value = { Feed };
 
-    ghost view = { λ framer. record { least = framer.least; most = framer.most; at = framer.at; rest = framer.rest.items } };
+    ghost view = { λ framer. record {
+      least = framer.least;
+      most = framer.most;
+      at = framer.at;
+      rest = framer.rest.items;
+    } };
 }
 
 impl Framer {
-    /// A framer at the start of a stream whose frames have from `least` to `most` bytes, their sizes
-    /// not counted. It allocates nothing.
+    /// A framer at the start of a stream whose frames have from `least` to `most` bytes, the four of
+    /// the size not counted. It allocates nothing.
     pub fn new(alloc: Global, least: u32, most: u32) -> Framer
         ensures { result ≡ record { least = least; most = most; at = 0; rest = [] } }
     {
@@ -61,14 +66,17 @@ impl Framer {
 
     /// Takes the next piece of the stream.
     pub fn feed(&mut self, piece: &[u8]) -> Result<(), NoMemory>
-        ensures ok { OnOk result (self.new ≡ record self.old { rest = self.old.rest ++ piece.now }) }
+        ensures ok { OnOk result
+            (self.new ≡ record self.old { rest = self.old.rest ++ piece.now }) }
+        ensures nothing { piece.now ≡ [] → IsOk result }
         ensures err { OnErr result (self.new ≡ self.old) }
     {
         self.rest.extend_from_slice(piece)?;
         Ok(())
     }
 
-    /// Gives what comes next. A bad size is given ever after.
+    /// Gives what comes next. A bad size is given ever after. `NoMemory` also stands for a place that
+    /// would pass 2^64 - 1.
     pub fn next(&mut self) -> Result<Next, NoMemory>
         // A frame is given once, in its place.
         ensures frame { IfFrame result (λ frame. TakesFrame self.old frame self.new) }
@@ -101,7 +109,8 @@ impl Framer {
     // The size at the front, if it is whole.
     fn size(&self) -> Option<i32>
         ensures value { result ≡ size_at self.now.rest }
-        ensures spelled { IfSome result (λ size. self.now.rest ≡ int32 size ++ drop 4 self.now.rest) }
+        ensures spelled { IfSome result
+            (λ size. self.now.rest ≡ int32 size ++ drop 4 self.now.rest) }
     {
         Reader::new(self.rest.as_slice()).i32().ok()
     }
@@ -125,7 +134,10 @@ impl Framer {
         requires small { size < 2 ^ 31 }
         requires fed { 4 + size ≤ length self.old.rest }
         ensures frame { IfOk result (λ frame. frame ≡ take size (drop 4 self.old.rest)) }
-        ensures ok { OnOk result (self.new ≡ record self.old { at = self.old.at + 4 + size; rest = drop (4 + size) self.old.rest }) }
+        ensures ok { OnOk result (self.new ≡ record self.old {
+          at = self.old.at + 4 + size;
+          rest = drop (4 + size) self.old.rest;
+        }) }
         ensures err { OnErr result (self.new ≡ self.old) }
     {
         let Some(at) = self.at.checked_add((SIZE + size) as u64) else {
@@ -141,7 +153,8 @@ impl Framer {
         requires small { size < 2 ^ 31 }
         requires fed { 4 + size ≤ length self.old.rest }
         ensures frame { IfOk result (λ frame. frame ≡ take size (drop 4 self.old.rest)) }
-        ensures ok { OnOk result (self.new ≡ record self.old { rest = drop (4 + size) self.old.rest }) }
+        ensures ok { OnOk result
+            (self.new ≡ record self.old { rest = drop (4 + size) self.old.rest }) }
         ensures err { OnErr result (self.new ≡ self.old) }
     {
         let end = SIZE + size;

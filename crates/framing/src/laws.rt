@@ -1,19 +1,24 @@
 //! What holds of the cutting of streams itself.
 
-ghost use Rattle.std.specs.Prelude.{◌≡◌, ℕ, ◌<◌, ◌⊎◌, ℤ, List, ◌++◌, Some, All};
-ghost use Rattle.framing.specs.Frames.{BeginsFrame, IsTail, bad_size};
+ghost use Rattle.std.specs.Prelude.{◌≡◌, ℕ, ◌<◌, ◌⊎◌, ℤ, List, ◌++◌, length, Some, All};
+ghost use Rattle.std.specs.List.{flat_map};
+ghost use Rattle.framing.specs.Frames.{sized, IsFrame, BeginsFrame, IsTail, bad_size};
 ghost use Rattle.framing.specs.Cuts.{Cuts};
+ghost use Rattle.framing.specs.Feed.{Feed};
+ghost use Rattle.framing.specs.Runs.{Event, Runs, opening, stream, given};
 
 /// A stream is cut in one way.
 pub fn one_cut()
-    ensures { (least most : ℕ) (stream : List ℕ) (frames others : List (List ℕ)) (tail rest : List ℕ)
+    ensures { (least most : ℕ) (stream : List ℕ)
+        (frames others : List (List ℕ)) (tail rest : List ℕ)
         → Cuts least most stream frames tail → Cuts least most stream others rest
         → (frames ≡ others) × (tail ≡ rest) }
 {}
 
 /// The cut of a stream is that of its pieces, wherever they end.
 pub fn cut_in_pieces()
-    ensures { (least most : ℕ) (stream piece : List ℕ) (frames more : List (List ℕ)) (tail rest : List ℕ)
+    ensures { (least most : ℕ) (stream piece : List ℕ)
+        (frames more : List (List ℕ)) (tail rest : List ℕ)
         → Cuts least most stream frames tail → Cuts least most (tail ++ piece) more rest
         → Cuts least most (stream ++ piece) (frames ++ more) rest }
 {}
@@ -36,4 +41,21 @@ pub fn frame_or_tail()
 pub fn bad_size_stays()
     ensures { (least most : ℕ) (bytes piece : List ℕ) (size : ℤ)
         → bad_size least most bytes ≡ Some size → bad_size least most (bytes ++ piece) ≡ Some size }
+{}
+
+/// However a stream was fed and whenever frames were asked for: they are the frames of its cut so
+/// far, and once no whole frame is left they are all of them.
+pub fn frames_of_a_run()
+    ensures place { (least most : ℕ) (events : List Event) (end : Feed)
+        → Runs (opening least most) events end
+        → end.at ≡ length (flat_map sized (given events)) }
+    ensures so_far { (least most : ℕ) (events : List Event) (end : Feed)
+        → Runs (opening least most) events end
+        → stream events ≡ flat_map sized (given events) ++ end.rest }
+    ensures each { (least most : ℕ) (events : List Event) (end : Feed)
+        → Runs (opening least most) events end
+        → All (IsFrame least most) (given events) }
+    ensures all { (least most : ℕ) (events : List Event) (end : Feed)
+        → Runs (opening least most) events end → IsTail least most end.rest
+        → Cuts least most (stream events) (given events) end.rest }
 {}

@@ -1,6 +1,6 @@
-ghost use Rattle.std.specs.Prelude.{◌≡◌, ℕ, ◌<◌, ◌↔◌, ℤ, List, ◌++◌, length, drop, Option, IsNone, IfSome, MatchResult, IsErr, IsErrOf, IfOk, OnOk, OnErr};
-ghost use Rattle.wire_types.specs.Strings.{IsTooLong};
+ghost use Rattle.std.specs.Prelude.{◌≡◌, ℕ, ◌<◌, ◌↔◌, ℤ, List, ◌++◌, length, drop, IsNone, IfSome, MatchResult, IsErr, IsErrOf, IfOk, OnOk, OnErr};
 ghost use Rattle.std.specs.Option.{option_copied};
+ghost use Rattle.wire_types.specs.Strings.{IsTooLong};
 ghost use Rattle.framing.specs.Heads.{request_head, Starts, IsRequest, HasBadClientId, EndsAt};
 
 use crate::head_fault::HeadFault;
@@ -44,12 +44,10 @@ impl RequestHead {
     /// Reads the head of a request's frame, and gives what follows it. The client id and the rest
     /// share the frame's bytes.
     pub fn read(frame: &Bytes) -> Result<(RequestHead, Bytes), HeadFault>
-        ensures ok { IfOk result (λ read. IsRequest frame.now
-            read.0.key read.0.version read.0.correlation_id read.0.client_id read.1) }
-        ensures spelled_is_read { (key version correlation_id : ℤ) (client_id : Option (List ℕ)) (body : List ℕ)
-            → IsRequest frame.now key version correlation_id client_id body
-            → MatchResult result
-            (λ read. (read.0 ≡ record { key = key; version = version; correlation_id = correlation_id; client_id = client_id }) × (read.1 ≡ body))
+        ensures ok { IfOk result (λ read. IsRequest frame.now read.0 read.1) }
+        ensures spelled_is_read { (head : RequestHead) (body : List ℕ)
+            → IsRequest frame.now head body
+            → MatchResult result (λ read. (read.0 ≡ head) × (read.1 ≡ body))
             (λ fault. fault ≡ HeadFault.NoMemory) }
         ensures short { IsErrOf result HeadFault.Short ↔ (length frame.now < 8) }
         ensures bad_client_id { IsErrOf result HeadFault.BadClientId ↔ HasBadClientId frame.now }
@@ -76,8 +74,7 @@ impl RequestHead {
 
     /// Appends the head to what is written already.
     pub fn write(&self, out: &mut Writer) -> Result<(), PutFault>
-        ensures ok { OnOk result (out.new ≡ out.old ++ request_head
-            self.now.key self.now.version self.now.correlation_id self.now.client_id) }
+        ensures ok { OnOk result (out.new ≡ out.old ++ request_head self.now) }
 
         // A client id past the limit is refused, if memory lasts so far.
         ensures too_long { (length : ℕ) → IsErrOf result (PutFault.TooLong length)
@@ -95,8 +92,7 @@ impl RequestHead {
 
     // Appends the head, or a part of it.
     fn put(&self, out: &mut Writer) -> Result<(), PutFault>
-        ensures ok { OnOk result (out.new ≡ out.old ++ request_head
-            self.now.key self.now.version self.now.correlation_id self.now.client_id) }
+        ensures ok { OnOk result (out.new ≡ out.old ++ request_head self.now) }
         ensures too_long { (length : ℕ) → IsErrOf result (PutFault.TooLong length)
             → IsTooLong self.now.client_id length }
         ensures never_too_long { (length : ℕ) → IsTooLong self.now.client_id length → IsErr result }

@@ -1,6 +1,5 @@
-ghost use Rattle.std.specs.Prelude.{◌≡◌, ◌<◌, ◌↔◌, ℤ, List, ℕ, ◌++◌, length, Ok, None, Some, IfSome, IfOk, OnOk, OnErr};
-ghost use Rattle.wire_types.specs.Numbers.{int32};
-ghost use Rattle.framing.specs.Heads.{IsResponse};
+ghost use Rattle.std.specs.Prelude.{◌≡◌, ℕ, ◌<◌, ◌↔◌, List, ◌++◌, length, Ok, None, Some, IfSome, IfOk, OnOk, OnErr};
+ghost use Rattle.framing.specs.Heads.{response_head, IsResponse};
 
 use bytes::Bytes;
 use wire_types::{NoMemory, Reader, Writer};
@@ -17,10 +16,9 @@ impl ResponseHead {
     /// bytes.
     pub fn read(frame: &Bytes) -> Result<Option<(ResponseHead, Bytes)>, NoMemory>
         ensures some { IfOk result (λ read. IfSome read (λ read.
-            IsResponse frame.now read.0.correlation_id read.1)) }
-        ensures spelled_is_read { (correlation_id : ℤ) (body : List ℕ)
-            → IsResponse frame.now correlation_id body
-            → IfOk result (λ read. read ≡ Some (record { correlation_id = correlation_id }, body)) }
+            IsResponse frame.now read.0 read.1)) }
+        ensures spelled_is_read { (head : ResponseHead) (body : List ℕ)
+            → IsResponse frame.now head body → IfOk result (λ read. read ≡ Some (head, body)) }
         ensures none { (result ≡ Ok None) ↔ (length frame.now < 4) }
     {
         let mut reader = Reader::new(frame.as_slice());
@@ -33,7 +31,7 @@ impl ResponseHead {
 
     /// Appends the head to what is written already.
     pub fn write(&self, out: &mut Writer) -> Result<(), NoMemory>
-        ensures ok { OnOk result (out.new ≡ out.old ++ int32 self.now.correlation_id) }
+        ensures ok { OnOk result (out.new ≡ out.old ++ response_head self.now) }
         ensures err { OnErr result (out.new ≡ out.old) }
     {
         out.put_all(&self.correlation_id.to_be_bytes())

@@ -1,7 +1,7 @@
 -- STRING of "Protocol Primitive Types" (NULLABLE_STRING, which has the same bytes for a text): an INT16
 -- length and that many bytes. The length -1 is null.
-use Rattle.std.specs.Prelude.{◌≡◌, ℕ, ◌<◌, ◌≤◌, ℤ, pos, negsuc, List, ◌++◌, length, Option, Some, None, IfSome}
-use Rattle.wire_types.specs.Numbers.{int16, int16_at}
+use Rattle.std.specs.Prelude.{◌≡◌, ℕ, ◌<◌, ◌≤◌, pos, negsuc, List, ◌++◌, length, Option, Some, None, IfSome}
+use Rattle.wire_types.specs.Numbers.{int16}
 
 abbrev pub string : Option (List ℕ) → List ℕ
 string None = int16 (negsuc 0)

@@ -55,7 +55,8 @@ impl<'a> Reader<'a> {
         ensures ok { IfOk result (λ value. Reads self.old (int16 value) self.new) }
         ensures spelled_is_read { (value : ℤ) (rest : List ℕ) → FitsSigned w16 value
             → unread self.old ≡ int16 value ++ rest → result ≡ Ok value }
-        ensures short { IsErrOf result (ReadFault.Short self.old.at) ↔ (length (unread self.old) < 2) }
+        ensures short { IsErrOf result (ReadFault.Short self.old.at)
+            ↔ (length (unread self.old) < 2) }
         ensures no_other { IfErr result (λ fault. fault ≡ ReadFault.Short self.old.at) }
         ensures err { OnErr result (self.new ≡ self.old) }
     {
@@ -68,7 +69,8 @@ impl<'a> Reader<'a> {
         ensures ok { IfOk result (λ value. Reads self.old (int32 value) self.new) }
         ensures spelled_is_read { (value : ℤ) (rest : List ℕ) → FitsSigned w32 value
             → unread self.old ≡ int32 value ++ rest → result ≡ Ok value }
-        ensures short { IsErrOf result (ReadFault.Short self.old.at) ↔ (length (unread self.old) < 4) }
+        ensures short { IsErrOf result (ReadFault.Short self.old.at)
+            ↔ (length (unread self.old) < 4) }
         ensures no_other { IfErr result (λ fault. fault ≡ ReadFault.Short self.old.at) }
         ensures err { OnErr result (self.new ≡ self.old) }
     {
@@ -81,7 +83,8 @@ impl<'a> Reader<'a> {
         ensures ok { IfOk result (λ text. Reads self.old (string (option_copied text)) self.new) }
         ensures fits { IfOk result (λ text. IsString (option_copied text)) }
         ensures spelled_is_read { (text : Option (List ℕ)) (rest : List ℕ) → IsString text
-            → unread self.old ≡ string text ++ rest → IsOkAnd result (λ found. option_copied found ≡ text) }
+            → unread self.old ≡ string text ++ rest
+            → IsOkAnd result (λ found. option_copied found ≡ text) }
 
         // A bad length is one that is there; else the item is short.
         ensures bad_length { IsErrOf result (ReadFault.BadLength self.old.at)
@@ -111,8 +114,10 @@ impl<'a> Reader<'a> {
 
     // The next `count` bytes.
     fn take(&mut self, count: usize) -> Result<&'a [u8], ReadFault>
-        ensures ok { IfOk result (λ bytes. Reads self.old bytes.now self.new × (length bytes.now ≡ count)) }
-        ensures short { IsErrOf result (ReadFault.Short self.old.at) ↔ (length (unread self.old) < count) }
+        ensures ok { IfOk result
+            (λ bytes. Reads self.old bytes.now self.new × (length bytes.now ≡ count)) }
+        ensures short { IsErrOf result (ReadFault.Short self.old.at)
+            ↔ (length (unread self.old) < count) }
         ensures no_other { IfErr result (λ fault. fault ≡ ReadFault.Short self.old.at) }
         ensures err { OnErr result (self.new ≡ self.old) }
     {

@@ -1,4 +1,4 @@
-ghost use Rattle.std.specs.Prelude.{◌≡◌, ◌++◌, ◌↔◌, ℕ, [], length, take, IsErrOf, IfOk, OnOk, OnErr};
+ghost use Rattle.std.specs.Prelude.{◌≡◌, ◌++◌, ◌↔◌, ℕ, [], length, take, IsTrue, IsErrOf, IsOk, IfOk, OnOk, OnErr};
 ghost use Rattle.std.specs.Option.{option_copied};
 ghost use Rattle.wire_types.specs.Numbers.{int16, int32};
 ghost use Rattle.wire_types.specs.Strings.{string, IsTooLong};
@@ -36,12 +36,20 @@ impl Writer {
         }
     }
 
+    /// How many bytes are written.
     pub fn len(&self) -> usize
         ensures { result ≡ length self.now }
     {
         self.bytes.len()
     }
 
+    pub fn is_empty(&self) -> bool
+        ensures { IsTrue result ↔ (self.now ≡ []) }
+    {
+        self.bytes.is_empty()
+    }
+
+    /// The bytes that are written.
     pub fn as_slice(&self) -> &[u8]
         ensures { result.now ≡ self.now }
     {
@@ -65,12 +73,14 @@ impl Writer {
     /// Appends bytes as they are, with no length.
     pub fn put_all(&mut self, bytes: &[u8]) -> Result<(), NoMemory>
         ensures ok { OnOk result (self.new ≡ self.old ++ bytes.now) }
+        ensures nothing { bytes.now ≡ [] → IsOk result }
         ensures err { OnErr result (self.new ≡ self.old) }
     {
         self.bytes.extend_from_slice(bytes)?;
         Ok(())
     }
 
+    /// Appends an INT16.
     pub fn put_i16(&mut self, value: i16) -> Result<(), PutFault>
         ensures ok { OnOk result (self.new ≡ self.old ++ int16 value) }
         ensures err { OnErr result (self.new ≡ self.old) }
@@ -80,6 +90,7 @@ impl Writer {
         Ok(())
     }
 
+    /// Appends an INT32.
     pub fn put_i32(&mut self, value: i32) -> Result<(), PutFault>
         ensures ok { OnOk result (self.new ≡ self.old ++ int32 value) }
         ensures err { OnErr result (self.new ≡ self.old) }
@@ -104,7 +115,8 @@ impl Writer {
 
     /// The bytes for others to share. No byte is copied.
     pub fn finish(self) -> Result<Bytes, NoMemory>
-        ensures { IfOk result (λ bytes. bytes ≡ self) }
+        ensures ok { IfOk result (λ bytes. bytes ≡ self) }
+        ensures empty { self ≡ [] → IsOk result }
     {
         Ok(Bytes::from_vec(self.bytes)?)
     }

@@ -1,5 +1,4 @@
-use Rattle.std.proofs.Common.{◌≡◌, ap, refl}
-use Rattle.std.specs.Prelude.{is_err}
+use Rattle.std.proofs.Common.{refl}
 use Rattle.framing.proofs.request_head.RequestHead.put.Goals as goal
 
 pub returns-in-Some-clause-too_long : goal.returns-in-Some-clause-too_long

@@ -1,5 +1,4 @@
-use Rattle.std.proofs.Common.{rules, ◌≡◌, ◌≤◌, ◌++◌, length, Some, sym, ◌∙◌, arith}
-use Rattle.std.proofs.lemmas.Grind.{common_steps}
+use Rattle.std.proofs.Common.{rules, ◌≤◌, length, Some, sym, ◌∙◌}
 use Rattle.wire_types.specs.Strings.{string}
 use Rattle.wire_types.specs.Reading.{Reads, unread}
 use Rattle.wire_types.proofs.Spellings.{one_string}
