@@ -1,7 +1,7 @@
 //! The program kproxy: it hands the machine's streams and files, and the words behind its own name, to
 //! [`proxy_main::run_command`], and ends with the number of the status that comes back. What the words
 //! say, and what is written for them, is told there.
-ghost use Rattle.std.specs.Prelude.{◌≡◌, drop, IfOk};
+ghost use Rattle.std.specs.Prelude.{◌≡◌, drop};
 ghost use Rattle.std.specs.Process.{exit_status};
 ghost use Rattle.proxy_main.specs.Words.{status_number};
 
@@ -24,7 +24,14 @@ fn command(rt: &HostRuntime) -> Result<Status, NoMemory> {
     let mut out = StdOut::new(rt)?;
     let mut files = HostFiles::new(rt)?;
     let mut steps = Steps::<()>::new();
-    Ok(run_command(rt.alloc(), words.as_slice(), &mut input, &mut out, &mut files, &mut steps))
+    Ok(run_command(
+        rt.alloc(),
+        words.as_slice(),
+        &mut input,
+        &mut out,
+        &mut files,
+        &mut steps,
+    ))
 }
 
 // The words of the command. Words that aren't UTF-8 are no words of it, and are taken for none.

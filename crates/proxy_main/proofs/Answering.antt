@@ -1,5 +1,5 @@
 -- One line more of a script: what it does goes on from what the lines before it did.
-use Rattle.std.proofs.Common.{◌≡◌, ℕ, Bool, true, false, ◌||◌, List, [], ◌∷◌, ◌++◌, length, map, ℤ, Option, Some, None, Result, Ok, Err, inl, inr, ◌⊎◌, sym, ◌∙◌, ap, subst, refl, append_assoc, if◌then◌else◌}
+use Rattle.std.proofs.Common.{◌≡◌, ℕ, Bool, true, false, ◌||◌, List, [], ◌∷◌, ◌++◌, length, map, ℤ, Option, Some, None, Ok, Err, inl, inr, ◌⊎◌, sym, ◌∙◌, ap, subst, refl, append_assoc, if◌then◌else◌}
 use Rattle.std.specs.Prelude.{MatchBool, is_some}
 use Rattle.std.specs.List.{flat_map}
 use Rattle.std.proofs.lemmas.Grind.{flat_map-append}
@@ -8,13 +8,13 @@ use Rattle.conn_rules.specs.declared.event.Event.TheVariants as event
 use Rattle.conn_rules.specs.declared.event.Reply.{Reply}
 use Rattle.conn_rules.specs.declared.event.Reply.TheVariants as reply
 use Rattle.conn_rules.specs.declared.event.Emit.TheVariants as emit
-use Rattle.conn_rules.specs.Meaning.{Meaning, Lasting}
+use Rattle.conn_rules.specs.Meaning.{Meaning}
 use Rattle.kp_edge.specs.declared.end.End.TheVariants as end
 use Rattle.conn_rules.specs.declared.event.Fault.{Fault}
 use Rattle.conn_rules.specs.declared.event.TakeFault.TheVariants as take_fault
 use Rattle.conn_rules.specs.declared.event.AnswerFault.TheVariants as answer_fault
 use Rattle.conn_rules.specs.State.{State, opening, is_still, is_ending, is_dead, halted, due_send}
-use Rattle.conn_rules.specs.Steps.{May, Step, answer_to, joined, attributed, client_end, faulted}
+use Rattle.conn_rules.specs.Steps.{Step, answer_to, joined, attributed, client_end, faulted}
 use Rattle.conn_rules.specs.History.{Entry, Runs, IsHistory, to_client, out, replies}
 use Rattle.conn_core.specs.Heartbeats.{heartbeats}
 use Rattle.transcript.specs.declared.line.Line.{Line}
@@ -22,7 +22,7 @@ use Rattle.transcript.specs.declared.line.Line.TheVariants as line
 use Rattle.transcript.specs.declared.answer.Answer.{Answer}
 use Rattle.transcript.specs.declared.answer.Answer.TheVariants as answer
 use Rattle.transcript.specs.Answers.{answer_text}
-use Rattle.proxy_main.specs.Streams.{Stream, Kind, Happens, Piece, events_of, bad_size_event, with_piece, piece_answer}
+use Rattle.proxy_main.specs.Streams.{Stream, Kind, Happens, Piece, bad_size_event}
 use Rattle.proxy_main.specs.Played.{Play, opening_play, Does, Plays, IsClosed, ClientPiece, BrokerPiece, ClientEnds, Asks, send_answer, printed, shown_to_client, client_kind, broker_kind}
 use Rattle.proxy_main.specs.Scripts.{Says, Say}
 use Rattle.proxy_main.specs.Replayed.{Answered}

@@ -1,9 +1,9 @@
 -- What is written in the end, by the status.
-use Rattle.std.proofs.Common.{◌≡◌, ℕ, ◌+◌, ◌<◌, ◌≤◌, List, [], ◌∷◌, ◌++◌, length, Option, Some, None, Result, Ok, Err, inl, inr, ◌⊎◌, sym, ◌∙◌, ap, subst, refl, append_assoc}
+use Rattle.std.proofs.Common.{◌≡◌, ℕ, ◌+◌, List, [], ◌∷◌, ◌++◌, Option, Result, Ok, Err, inl, inr, sym, ◌∙◌, ap, subst, refl, append_assoc}
 use Rattle.proxy_main.specs.Output.{Appends, AppendsFront}
-use Rattle.proxy_main.specs.Scripts.{Script, IsBad, bad_line_text, too_long_text}
-use Rattle.proxy_main.specs.Replayed.{Answered, Whole, Front, BadLine, TooLong, CutShort, IsTextOf, Replays}
-use Rattle.proxy_main.specs.Runs.{Waiting, EndsWhole, EndsAtLine, EndsTooLong, EndsEarly, ReadEnds, Refuses, WritesOut, Concluded, Concludes}
+use Rattle.proxy_main.specs.Scripts.{Script, bad_line_text, too_long_text}
+use Rattle.proxy_main.specs.Replayed.{Whole, Front, BadLine, TooLong, IsTextOf, Replays}
+use Rattle.proxy_main.specs.Runs.{Waiting, EndsWhole, EndsAtLine, EndsTooLong, EndsEarly, Refuses, WritesOut, Concluded, Concludes}
 use Rattle.proxy_main.specs.declared.replay.Replay.{Replay}
 use Rattle.proxy_main.specs.declared.stop.Stop.{Stop}
 use Rattle.proxy_main.specs.declared.stop.Stop.TheVariants as stop
@@ -93,8 +93,13 @@ concludes_output x before script left first e =
 bad_line_of : (script : List ℕ) (x : Replay) (first now : Option (List ℕ)) (e : EndsAtLine script x first now) → BadLine script (e.waiting.text ++ bad_line_text (x.lines + 1))
 bad_line_of script x first now e =
     record {
-      lines = e.lines; bad = e.bad; others = e.others; script_is = e.script_is; is_bad = e.is_bad;
-      answers = e.waiting.text; answered = e.waiting.answered;
+      lines = e.lines;
+      bad = e.bad;
+      others = e.others;
+      script_is = e.script_is;
+      is_bad = e.is_bad;
+      answers = e.waiting.text;
+      answered = e.waiting.answered;
       text_is = ap (λ n. e.waiting.text ++ bad_line_text (n + 1)) e.count;
     }
 

@@ -1,13 +1,12 @@
 -- How a replay goes on while its answers are written, and how it stops.
-use Rattle.std.proofs.Common.{◌≡◌, ℕ, zero, suc, ◌+◌, ◌-◌, ◌<◌, ◌≤◌, List, [], ◌∷◌, ◌++◌, length, take, drop, Option, Some, None, Result, Ok, Err, inl, inr, ◌⊎◌, sym, ◌∙◌, ap, subst, refl, arith, append_assoc, length-append}
-use Rattle.std.specs.Prelude.{IfErr, IsErrOf}
+use Rattle.std.proofs.Common.{◌≡◌, ℕ, zero, suc, ◌+◌, ◌-◌, ◌<◌, ◌≤◌, List, [], ◌∷◌, ◌++◌, length, take, drop, Option, Some, Err, sym, ◌∙◌, ap, subst, refl, arith, append_assoc, length-append}
 use Rattle.std.proofs.lemmas.List.{take-append-drop, length-take}
 use Rattle.kp_edge.specs.Source.{Gives}
 use Rattle.proxy_main.specs.Scripts.{Lines, Script, with_last, script_limit}
 use Rattle.proxy_main.proofs.Scripting.{first_lines, long_script, whole_script}
 use Rattle.proxy_main.specs.Output.{Appends, AppendsFront}
 use Rattle.proxy_main.specs.Stationed.{Stationed}
-use Rattle.proxy_main.specs.Run.{Begins, Standing, Reading, Advances, Stumbles, Finishes, FinishesBadly}
+use Rattle.proxy_main.specs.Run.{Begins, Reading, Advances, Stumbles, Finishes, FinishesBadly}
 use Rattle.proxy_main.specs.Runs.{Waiting, Running, Flushes, Goes, TakesAll, TakeStops, Stops, Coming, ReadEnds, EndsWhole}
 use Rattle.proxy_main.specs.Stops.{stop_of}
 use Rattle.proxy_main.specs.declared.replay.Replay.{Replay}
@@ -21,7 +20,9 @@ use Rattle.proxy_main.proofs.LineCuts.{begins, begins_longer}
 reading_alike : (old new : Replay) (read text : List ℕ) → new.station ≡ old.station → new.partial.items ≡ old.partial.items → new.lines ≡ old.lines → Reading old read text → Reading new read text
 reading_alike old new read text station partial lines r =
     record {
-      ended = r.ended; last = r.last; cut = r.cut;
+      ended = r.ended;
+      last = r.last;
+      cut = r.cut;
       standing = record { answered = r.standing.answered; stationed = subst (λ x. Stationed x r.standing.answered.last) (sym station) r.standing.stationed; count = lines ∙ r.standing.count };
       partial = partial ∙ r.partial;
     }
@@ -75,7 +76,8 @@ stops_at old between new t0 t1 front rest line_stop.BadLine takes bad same first
     let r = takes first read r0 in
     let s = bad refl (read ++ front) r.text r.reading in
     record {
-      lines = s.lines; bad = s.bad;
+      lines = s.lines;
+      bad = s.bad;
       begins = subst (λ xs. Begins xs (s.lines ++ s.bad ∷ [])) (append_assoc read front rest) s.begins;
       is_bad = s.is_bad;
       count = s.standing.count;
@@ -150,15 +152,21 @@ module _ (script : List ℕ) (old flushed : Replay) (coming first before written
   pub turn_output : AppendsFront before old.answers written → (x : Replay) (left : Option (List ℕ)) → ReadEnds script x left first written (Err stop.Output)
   turn_output wrote x left =
       let r = k.running in
-      let f = first_lines script k.read k.rest r.reading.ended k.parts read_within (begins _ _ _ r.reading.cut) in
-      (wrote.missing, record {
-        lines = r.reading.ended; others = f.others; script_is = f.script_is;
-        waiting = record {
-          text = r.text; written = r.written ++ wrote.front; answered = r.reading.standing.answered;
-          parts = r.parts ∙ ap (λ xs. r.written ++ xs) wrote.parts ∙ sym (append_assoc r.written wrote.front wrote.missing);
-          appends = appends_then first before written r.written wrote.front r.appends wrote.appends;
-        };
-      })
+      let f = first_lines script k.read k.rest r.reading.ended k.parts read_within (begins _ _ _ r.reading.cut) in (
+        wrote.missing,
+        record {
+          lines = r.reading.ended;
+          others = f.others;
+          script_is = f.script_is;
+          waiting = record {
+            text = r.text;
+            written = r.written ++ wrote.front;
+            answered = r.reading.standing.answered;
+            parts = r.parts ∙ ap (λ xs. r.written ++ xs) wrote.parts ∙ sym (append_assoc r.written wrote.front wrote.missing);
+            appends = appends_then first before written r.written wrote.front r.appends wrote.appends;
+          };
+        },
+      )
 
   -- the read failed
   pub turn_input : Flushes old before flushed written → (left : Option (List ℕ)) → ReadEnds script flushed left first written (Err stop.Input)
@@ -172,15 +180,17 @@ module _ (script : List ℕ) (old flushed : Replay) (coming first before written
   turn_taken f new count buffer piece left after gives is le takes =
       let same : piece ≡ take count k.rest = is ∙ gives.bytes in
       let n : length (take count k.rest) ≡ count = length_taken count k.rest gives.within in
-      let e : length k.read + allowed ≡ script_limit = k.allowed_is in
-      (record {
-        read = k.read ++ take count k.rest;
-        rest = drop count k.rest;
-        parts = k.parts ∙ ap (λ xs. k.read ++ xs) (sym (take-append-drop count k.rest)) ∙ sym (append_assoc k.read (take count k.rest) (drop count k.rest));
-        left_is = gives.rest;
-        allowed_is = omega (arith, length-append k.read (take count k.rest), n, e, le);
-        running = subst (λ xs. Running new first after (k.read ++ xs)) same (takes first k.read (flush_goes old flushed before written f first k.read k.running));
-      }, λ none. drop_nil count k.rest (gives.at_end none))
+      let e : length k.read + allowed ≡ script_limit = k.allowed_is in (
+        record {
+          read = k.read ++ take count k.rest;
+          rest = drop count k.rest;
+          parts = k.parts ∙ ap (λ xs. k.read ++ xs) (sym (take-append-drop count k.rest)) ∙ sym (append_assoc k.read (take count k.rest) (drop count k.rest));
+          left_is = gives.rest;
+          allowed_is = omega (arith, length-append k.read (take count k.rest), n, e, le);
+          running = subst (λ xs. Running new first after (k.read ++ xs)) same (takes first k.read (flush_goes old flushed before written f first k.read k.running));
+        },
+        λ none. drop_nil count k.rest (gives.at_end none),
+      )
 
   -- it stopped within them
   pub turn_stopped : Flushes old before flushed written → (new : Replay) (count : ℕ) (buffer piece : List ℕ) (left ahead after : Option (List ℕ)) (why : Stop) → Gives count k.rest ahead buffer → piece ≡ take count buffer → (m : ℕ) → m ≤ allowed → m ≤ count → TakeStops flushed written (take m buffer) new after why → ReadEnds script new left first after (Err why)
@@ -189,9 +199,9 @@ module _ (script : List ℕ) (old flushed : Replay) (coming first before written
       let e : length k.read + allowed ≡ script_limit = k.allowed_is in
       let n : length (take m k.rest) ≤ m = taken_length m k.rest in
       stops_end script (k.read ++ take m k.rest) (drop m k.rest) new left first after why
-        (k.parts ∙ ap (λ xs. k.read ++ xs) (sym (take-append-drop m k.rest)) ∙ sym (append_assoc k.read (take m k.rest) (drop m k.rest)))
-        (omega (arith, length-append k.read (take m k.rest), n, e, le))
-        (subst (λ xs. Stops (k.read ++ xs) new first after why) same (stops first k.read (flush_goes old flushed before written f first k.read k.running)))
+      (k.parts ∙ ap (λ xs. k.read ++ xs) (sym (take-append-drop m k.rest)) ∙ sym (append_assoc k.read (take m k.rest) (drop m k.rest)))
+      (omega (arith, length-append k.read (take m k.rest), n, e, le))
+      (subst (λ xs. Stops (k.read ++ xs) new first after why) same (stops first k.read (flush_goes old flushed before written f first k.read k.running)))
 
   -- there were more bytes than may come
   pub turn_too_long : Flushes old before flushed written → (new : Replay) (count : ℕ) (buffer : List ℕ) (left ahead after : Option (List ℕ)) → Gives count k.rest ahead buffer → allowed < count → TakesAll flushed written (take allowed buffer) new after → ReadEnds script new left first after (Err stop.TooLong)
@@ -204,10 +214,10 @@ module _ (script : List ℕ) (old flushed : Replay) (coming first before written
       record {
         lines = r.reading.ended;
         script_is = long_script script (k.read ++ take allowed k.rest) (drop allowed k.rest) r.reading.ended r.reading.last
-          (k.parts ∙ ap (λ xs. k.read ++ xs) (sym (take-append-drop allowed k.rest)) ∙ sym (append_assoc k.read (take allowed k.rest) (drop allowed k.rest)))
-          seen
-          (omega (arith, ap length k.parts, length-append k.read k.rest, e, gives.within))
-          (subst (λ xs. Lines (k.read ++ xs) r.reading.ended r.reading.last) same r.reading.cut);
+            (k.parts ∙ ap (λ xs. k.read ++ xs) (sym (take-append-drop allowed k.rest)) ∙ sym (append_assoc k.read (take allowed k.rest) (drop allowed k.rest)))
+            seen
+            (omega (arith, ap length k.parts, length-append k.read k.rest, e, gives.within))
+            (subst (λ xs. Lines (k.read ++ xs) r.reading.ended r.reading.last) same r.reading.cut);
         beyond = omega (arith, ap length k.parts, length-append k.read k.rest, e, gives.within);
         waiting = waiting new first after (k.read ++ take allowed buffer) r;
       }
@@ -230,7 +240,9 @@ module _ (script : List ℕ) (old new : Replay) (left first after : Option (List
         within = script_within;
         all = k.left_is ∙ ap Some none;
         waiting = record {
-          text = r.text ++ f.more; written = r.written; answered = f.standing.answered;
+          text = r.text ++ f.more;
+          written = r.written;
+          answered = f.standing.answered;
           parts = ap (λ xs. xs ++ f.more) r.parts ∙ append_assoc r.written old.answers f.more ∙ ap (λ xs. r.written ++ xs) (sym f.pending);
           appends = r.appends;
         };
@@ -241,9 +253,12 @@ module _ (script : List ℕ) (old new : Replay) (left first after : Option (List
       let r = k.running in
       let f = bad refl k.read r.text r.reading in
       record {
-        lines = f.ended; bad = f.last; others = [];
+        lines = f.ended;
+        bad = f.last;
+        others = [];
         script_is = subst (Script script) f.bad (whole_script script f.ended f.last script_within (subst (λ xs. Lines xs f.ended f.last) (sym all_read) f.cut));
-        is_bad = f.is_bad; count = f.standing.count;
+        is_bad = f.is_bad;
+        count = f.standing.count;
         waiting = record { text = r.text; written = r.written; answered = f.standing.answered; parts = r.parts ∙ ap (λ xs. r.written ++ xs) (sym same); appends = r.appends };
       }
   finish_stops line_stop.NoMemory bad same =

@@ -1,5 +1,5 @@
 -- What a reply of the core says of the machine's step.
-use Rattle.std.proofs.Common.{◌≡◌, ℕ, Bool, true, false, ◌||◌, List, [], ◌∷◌, Option, Some, None, Result, Ok, Err, sym, ◌∙◌, subst, inl, inr, ◌⊎◌, refl}
+use Rattle.std.proofs.Common.{◌≡◌, ℕ, Bool, true, false, ◌||◌, List, [], ◌∷◌, Option, Some, None, Ok, Err, sym, subst, inl, inr, refl}
 use Rattle.std.specs.Prelude.{MatchBool}
 use Rattle.conn_rules.specs.declared.event.Event.{Event}
 use Rattle.conn_rules.specs.declared.event.Reply.{Reply}
@@ -8,12 +8,11 @@ use Rattle.conn_rules.specs.declared.event.TakeFault.{TakeFault}
 use Rattle.conn_rules.specs.declared.event.TakeFault.TheVariants as take_fault
 use Rattle.conn_rules.specs.declared.event.AnswerFault.{AnswerFault}
 use Rattle.conn_rules.specs.declared.event.AnswerFault.TheVariants as answer_fault
-use Rattle.conn_rules.specs.declared.event.CompleteFault.{CompleteFault}
 use Rattle.conn_rules.specs.declared.event.CompleteFault.TheVariants as complete_fault
 use Rattle.conn_rules.specs.Meaning.{Meaning}
 use Rattle.conn_rules.specs.State.{State}
 use Rattle.conn_rules.specs.History.{Entry}
-use Rattle.conn_rules.specs.Steps.{May, Step, GivesUp, memory_answer}
+use Rattle.conn_rules.specs.Steps.{May, Step, memory_answer}
 use Rattle.conn_core.specs.Heartbeats.{heartbeats}
 use Rattle.conn_core.specs.Stands.{Stands, Follows}
 use Rattle.conn_core.specs.declared.connection.Core.{Core}
@@ -125,7 +124,8 @@ pub told_once : (told : Bool) (bad : Option Fault) (f : Fault) (s t : State) (co
 told_once told bad f s t core fresh is may stands =
     let hs : List Entry = record { actor = 0; event = event.Fault f; reply = reply.Noted } ∷ [] in
     record {
-      history = hs; after = t;
+      history = hs;
+      after = t;
       happens = subst (λ es. Happens heartbeats s es hs t) (sym (one_to_tell told bad f fresh is)) (happened s (event.Fault f) reply.Noted t refl may);
       stands = stands;
       noted = λ test quiet. rw quiet refl;

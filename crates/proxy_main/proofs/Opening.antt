@@ -1,5 +1,5 @@
 -- Before anything was read.
-use Rattle.std.proofs.Common.{◌≡◌, ℕ, ◌<◌, ◌≤◌, List, [], ◌∷◌, ◌++◌, length, Option, Some, refl, sym, ◌∙◌, ap, arith}
+use Rattle.std.proofs.Common.{◌≡◌, ℕ, List, [], ◌++◌, Option, Some, refl, sym, ◌∙◌, ap, arith}
 use Rattle.std.proofs.lemmas.List.Elements.{All-nil}
 use Rattle.proxy_main.specs.Played.{opening_play}
 use Rattle.proxy_main.specs.Scripts.{HasNoBreak}
@@ -13,8 +13,16 @@ use Rattle.proxy_main.proofs.Scripting.{first_lines}
 pub answered_none : Answered [] []
 answered_none =
     record {
-      says = []; answers = []; history = []; last = opening_play;
-      read = tt; plays = (refl, refl); text_is = refl; is_history = refl; sent = refl; in_order = refl;
+      says = [];
+      answers = [];
+      history = [];
+      last = opening_play;
+      read = tt;
+      plays = (refl, refl);
+      text_is = refl;
+      is_history = refl;
+      sent = refl;
+      in_order = refl;
     }
 
 -- nothing was written

@@ -11,24 +11,18 @@ use Rattle.framing.specs.declared.next.Next.{Next}
 use Rattle.framing.specs.declared.next.Next.TheVariants as next
 use Rattle.wire_types.specs.Numbers.{int32}
 use Rattle.framing.specs.Frames.{sized, IsFrame, IsTail, bad_size}
-use Rattle.framing.specs.Cuts.{Cuts}
 use Rattle.framing.specs.Feed.{Feed}
 use Rattle.framing.specs.Answers.{TakesFrame, IfFrame}
-use Rattle.conn_rules.specs.declared.event.Event.{Event}
-use Rattle.conn_rules.specs.declared.event.Event.TheVariants as event
-use Rattle.conn_rules.specs.declared.event.Fault.{Fault}
-use Rattle.conn_rules.specs.declared.event.Reply.{Reply}
 use Rattle.conn_rules.specs.declared.event.Reply.TheVariants as reply
 use Rattle.conn_rules.specs.State.{State}
 use Rattle.conn_rules.specs.History.{Entry}
 use Rattle.conn_core.specs.Heartbeats.{heartbeats}
 use Rattle.conn_core.specs.Stands.{Stands}
 use Rattle.conn_core.specs.declared.connection.Core.{Core}
-use Rattle.transcript.specs.declared.answer.Answer.{Answer}
 use Rattle.transcript.specs.declared.answer.Answer.TheVariants as answer
 use Rattle.proxy_main.specs.declared.frames.Handed.{Handed}
-use Rattle.proxy_main.specs.Streams.{Stream, Kind, Happens, Piece, events_of, handed_on, with_piece, piece_answer, bad_size_event}
-use Rattle.proxy_main.specs.Handed.{Met, Meets, Gave, Hands, Noted, Tells, events_told, bad_fault}
+use Rattle.proxy_main.specs.Streams.{Stream, Kind, Happens, Piece, events_of, handed_on, with_piece, bad_size_event}
+use Rattle.proxy_main.specs.Handed.{Meets, Gave, Hands, Tells, events_told}
 use Rattle.proxy_main.specs.Stationed.{Framed}
 use Rattle.proxy_main.proofs.Happenings.{Happens-append}
 
@@ -68,15 +62,15 @@ gave_more kind first core last before between after refused closed frame gave ta
       least = ap (λ (f : Feed). f.least) takes.after ∙ gave.least;
       most = ap (λ (f : Feed). f.most) takes.after ∙ gave.most;
       met = λ s stands.
-        let a = gave.met s stands in
-        let b = meets a.after a.stands in
-        record {
-          history = a.history ++ b.history;
-          after = b.after;
-          happens = subst (λ es. Happens heartbeats s es (a.history ++ b.history) b.after) (sym (map-append kind.frame gave.frames (frame ∷ []))) (Happens-append heartbeats s _ a.history a.after _ b.history b.after a.happens b.happens);
-          stands = b.stands;
-          refused_is = ap (λ x. x || closed) a.refused_is ∙ ap (λ x. list_any (λ h. kind.refused h.reply) a.history || x) b.refused_is ∙ sym (list_any-append (λ h. kind.refused h.reply) a.history b.history);
-        };
+          let a = gave.met s stands in
+          let b = meets a.after a.stands in
+          record {
+            history = a.history ++ b.history;
+            after = b.after;
+            happens = subst (λ es. Happens heartbeats s es (a.history ++ b.history) b.after) (sym (map-append kind.frame gave.frames (frame ∷ []))) (Happens-append heartbeats s _ a.history a.after _ b.history b.after a.happens b.happens);
+            stands = b.stands;
+            refused_is = ap (λ x. x || closed) a.refused_is ∙ ap (λ x. list_any (λ h. kind.refused h.reply) a.history || x) b.refused_is ∙ sym (list_any-append (λ h. kind.refused h.reply) a.history b.history);
+          };
     }
   where
     append_nil : (xs : List ℕ) → xs ++ [] ≡ xs
@@ -119,22 +113,22 @@ piece_done kind first core last before fed after stream piece told handed s quie
     let each : All (IsFrame kind.least kind.most) gave.frames = subst (λ n. All (IsFrame n kind.most) gave.frames) fed_least (subst (λ n. All (IsFrame fed.least n) gave.frames) fed_most gave.each) in
     let tail_is : IsTail kind.least kind.most after.rest = subst (λ n. IsTail n kind.most after.rest) least (subst (λ n. IsTail after.least n after.rest) most hands.tail_is) in
     let whole : stream.bytes ++ piece ≡ flat_map sized all ++ after.rest =
-        ap (λ xs. xs ++ piece) framed.cut.whole ∙ append_assoc (flat_map sized framed.frames) before.rest piece
-        ∙ ap (λ xs. flat_map sized framed.frames ++ xs) (sym fed_rest ∙ gave.parts)
-        ∙ sym (append_assoc (flat_map sized framed.frames) (flat_map sized gave.frames) after.rest)
-        ∙ ap (λ xs. xs ++ after.rest) (sym (flat_map-append sized framed.frames gave.frames)) in
+    ap (λ xs. xs ++ piece) framed.cut.whole ∙ append_assoc (flat_map sized framed.frames) before.rest piece
+    ∙ ap (λ xs. flat_map sized framed.frames ++ xs) (sym fed_rest ∙ gave.parts)
+    ∙ sym (append_assoc (flat_map sized framed.frames) (flat_map sized gave.frames) after.rest)
+    ∙ ap (λ xs. xs ++ after.rest) (sym (flat_map-append sized framed.frames gave.frames)) in
     let place : length (stream.bytes ++ piece) - length after.rest ≡ after.at = omega (arith, gave.place, framed.place, ap (λ (f : Feed). f.at) fed_is, ap length fed_rest, length-append before.rest piece, length-append stream.bytes piece) in
     let new_ones : drop stream.handed all ≡ gave.frames = ap (λ n. drop n all) framed.handed ∙ drop-append_seam framed.frames gave.frames in
     let size_is : bad_size after.least after.most after.rest ≡ bad_size kind.least kind.most after.rest = ap (λ n. bad_size n after.most after.rest) least ∙ ap (λ n. bad_size kind.least n after.rest) most in
     let bad_is : handed.bad ≡ option_map (kind.bad after.at) (bad_size kind.least kind.most after.rest) = hands.bad_is ∙ ap (option_map (kind.bad after.at)) size_is in
     let size_event : events_told told handed.bad ≡ bad_size_event kind stream.bad_told (length (stream.bytes ++ piece) - length after.rest) (bad_size kind.least kind.most after.rest) =
-        ap (events_told told) bad_is ∙ told_events kind told after.at (bad_size kind.least kind.most after.rest)
-        ∙ ap (λ t. bad_size_event kind t after.at (bad_size kind.least kind.most after.rest)) (sym told_is)
-        ∙ ap (λ n. bad_size_event kind stream.bad_told n (bad_size kind.least kind.most after.rest)) (sym place) in
+    ap (events_told told) bad_is ∙ told_events kind told after.at (bad_size kind.least kind.most after.rest)
+    ∙ ap (λ t. bad_size_event kind t after.at (bad_size kind.least kind.most after.rest)) (sym told_is)
+    ∙ ap (λ n. bad_size_event kind stream.bad_told n (bad_size kind.least kind.most after.rest)) (sym place) in
     let events : map kind.frame gave.frames ++ events_told told handed.bad ≡ events_of kind (with_piece stream piece) all after.rest =
-        ap (λ fs. map kind.frame fs ++ events_told told handed.bad) (sym new_ones) ∙ ap (λ es. map kind.frame (drop stream.handed all) ++ es) size_event in
+    ap (λ fs. map kind.frame fs ++ events_told told handed.bad) (sym new_ones) ∙ ap (λ es. map kind.frame (drop stream.handed all) ++ es) size_event in
     let refused : list_any (λ h. kind.refused h.reply) (a.history ++ b.history) ≡ handed.refused =
-        list_any-append (λ h. kind.refused h.reply) a.history b.history ∙ ap (λ x. list_any (λ h. kind.refused h.reply) a.history || x) (b.noted kind.refused quiet) ∙ or_false _ ∙ sym a.refused_is in
+    list_any-append (λ h. kind.refused h.reply) a.history b.history ∙ ap (λ x. list_any (λ h. kind.refused h.reply) a.history || x) (b.noted kind.refused quiet) ∙ or_false _ ∙ sym a.refused_is in
     record {
       history = a.history ++ b.history;
       later = handed_on kind (with_piece stream piece) all after.rest;
@@ -149,7 +143,9 @@ piece_done kind first core last before fed after stream piece told handed s quie
       };
       stands = b.stands;
       framed = record {
-        least = least; most = most; frames = all;
+        least = least;
+        most = most;
+        frames = all;
         cut = record { whole = whole; each = All-append (IsFrame kind.least kind.most) framed.frames gave.frames framed.cut.each each; tail_is = tail_is };
         place = omega (arith, gave.place, framed.place, ap (λ (f : Feed). f.at) fed_is, ap length fed_rest, length-append before.rest piece, length-append stream.bytes piece);
         handed = refl;

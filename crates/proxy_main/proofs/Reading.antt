@@ -1,8 +1,8 @@
 -- How a replay goes on: a piece without a break, a line that ends, and the last line.
-use Rattle.std.proofs.Common.{◌≡◌, ℕ, ◌+◌, ◌≤◌, List, [], ◌∷◌, ◌++◌, length, take, ◌⊎◌, inl, inr, sym, ◌∙◌, ap, subst, refl, arith, append_assoc}
+use Rattle.std.proofs.Common.{◌≡◌, ℕ, ◌+◌, ◌≤◌, List, [], ◌∷◌, ◌++◌, length, take, ◌⊎◌, inl, inr, sym, ◌∙◌, ap, subst, arith, append_assoc}
 use Rattle.proxy_main.specs.Stationed.{Stationed}
-use Rattle.proxy_main.specs.Scripts.{HasNoBreak, Lines, with_last, IsBad, line_limit}
-use Rattle.proxy_main.specs.Run.{Begins, Standing, Reading, Answers, Advances, Ends, Stumble, EndsBadly, Stumbles, Finished, Finishes, FinishedBadly, FinishesBadly}
+use Rattle.proxy_main.specs.Scripts.{HasNoBreak, Lines, IsBad, line_limit}
+use Rattle.proxy_main.specs.Run.{Begins, Standing, Reading, Answers, Advances, Ends, EndsBadly, Stumbles, Finishes, FinishesBadly}
 use Rattle.proxy_main.specs.declared.replay.Replay.{Replay}
 use Rattle.proxy_main.proofs.Answering.{append_nil}
 use Rattle.proxy_main.proofs.LineCuts.{lines_longer, lines_ended, begins, begins_longer, kept_whole, bad_kept, nothing_kept, clipped_again, length_clipped, with_last_is}
@@ -36,14 +36,17 @@ TellsLine old t piece = (read text : List ℕ) (r : Reading old read text) → I
 pub ends : (old between new : Replay) (t piece : List ℕ) → Alike old between → TellsLine old t piece → Answers between t new → length t ≤ line_limit → new.partial.items ≡ [] → Ends old piece new
 ends old between new t piece alike tells answers le empty quiet read text r =
     let a = answers r.ended text (stands_alike old between r.ended text alike r.standing) in
-    let is : t ≡ r.last ++ piece = whole_line t (r.last ++ piece) (tells read text r) le in
-    (a.0, record {
-       ended = r.ended ++ (r.last ++ piece) ∷ [];
-       last = [];
-       cut = lines_ended read r.ended r.last piece r.cut quiet;
-       standing = subst (λ l. Standing new (r.ended ++ l ∷ []) (text ++ a.0)) is a.1;
-       partial = empty;
-     }, a.2 ∙ ap (λ xs. xs ++ a.0) alike.answers)
+    let is : t ≡ r.last ++ piece = whole_line t (r.last ++ piece) (tells read text r) le in (
+      a.0,
+      record {
+        ended = r.ended ++ (r.last ++ piece) ∷ [];
+        last = [];
+        cut = lines_ended read r.ended r.last piece r.cut quiet;
+        standing = subst (λ l. Standing new (r.ended ++ l ∷ []) (text ++ a.0)) is a.1;
+        partial = empty;
+      },
+      a.2 ∙ ap (λ xs. xs ++ a.0) alike.answers,
+    )
 
 pub ends_badly : (old between new : Replay) (t piece : List ℕ) → Alike old between → TellsLine old t piece → new ≡ between → IsBad t → EndsBadly old piece new
 ends_badly old between new t piece alike tells same bad quiet read text r =
@@ -70,21 +73,27 @@ tells_kept old t piece kept keeps is read text r =
 -- a piece without a break
 pub goes_on : (old new : Replay) (piece kept : List ℕ) → Alike old new → new.partial.items ≡ kept → (length old.partial.items ≤ line_limit + 1 → kept ≡ take (line_limit + 1) (old.partial.items ++ piece)) → HasNoBreak piece → Advances old piece new
 goes_on old new piece kept alike is keeps quiet read text r =
-    let le : length old.partial.items ≤ line_limit + 1 = subst (λ xs. length xs ≤ line_limit + 1) (sym r.partial) (length_clipped (line_limit + 1) r.last) in
-    ([], record {
-       ended = r.ended;
-       last = r.last ++ piece;
-       cut = lines_longer read r.ended r.last piece r.cut quiet;
-       standing = subst (λ xs. Standing new r.ended xs) (sym (append_nil text)) (stands_alike old new r.ended text alike r.standing);
-       partial = is ∙ keeps le ∙ ap (λ xs. take (line_limit + 1) (xs ++ piece)) r.partial ∙ clipped_again (line_limit + 1) r.last piece;
-     }, alike.answers ∙ sym (append_nil old.answers))
+    let le : length old.partial.items ≤ line_limit + 1 = subst (λ xs. length xs ≤ line_limit + 1) (sym r.partial) (length_clipped (line_limit + 1) r.last) in (
+      [],
+      record {
+        ended = r.ended;
+        last = r.last ++ piece;
+        cut = lines_longer read r.ended r.last piece r.cut quiet;
+        standing = subst (λ xs. Standing new r.ended xs) (sym (append_nil text)) (stands_alike old new r.ended text alike r.standing);
+        partial = is ∙ keeps le ∙ ap (λ xs. take (line_limit + 1) (xs ++ piece)) r.partial ∙ clipped_again (line_limit + 1) r.last piece;
+      },
+      alike.answers ∙ sym (append_nil old.answers),
+    )
 
 -- the last line
 pub finishes_empty : (old : Replay) → old.partial.items ≡ [] → Finishes old old
 finishes_empty old empty read text r =
     let none : r.last ≡ [] = nothing_kept (line_limit + 1) r.last (omega arith) (sym r.partial ∙ empty) in
     record {
-      ended = r.ended; last = []; cut = subst (λ l. Lines read r.ended l) none r.cut; more = [];
+      ended = r.ended;
+      last = [];
+      cut = subst (λ l. Lines read r.ended l) none r.cut;
+      more = [];
       standing = subst (λ xs. Standing old r.ended xs) (sym (append_nil text)) r.standing;
       pending = sym (append_nil old.answers);
     }
@@ -97,7 +106,10 @@ finishes old between new t alike is full answers le read text r =
     let a = answers r.ended text (stands_alike old between r.ended text alike r.standing) in
     let whole : t ≡ r.last = whole_line t r.last (inr (is ∙ r.partial)) le in
     record {
-      ended = r.ended; last = r.last; cut = r.cut; more = a.0;
+      ended = r.ended;
+      last = r.last;
+      cut = r.cut;
+      more = a.0;
       standing = subst (λ ls. Standing new ls (text ++ a.0)) (sym (with_last_is r.ended r.last (not_empty old read text r full))) (subst (λ l. Standing new (r.ended ++ l ∷ []) (text ++ a.0)) whole a.1);
       pending = a.2 ∙ ap (λ xs. xs ++ a.0) alike.answers;
     }
@@ -105,7 +117,9 @@ finishes old between new t alike is full answers le read text r =
 pub finishes_badly : (old between new : Replay) (t : List ℕ) → Alike old between → t ≡ old.partial.items → (old.partial.items ≡ [] → ⊥) → new ≡ between → IsBad t → FinishesBadly old new
 finishes_badly old between new t alike is full same bad read text r =
     record {
-      ended = r.ended; last = r.last; cut = r.cut;
+      ended = r.ended;
+      last = r.last;
+      cut = r.cut;
       bad = with_last_is r.ended r.last (not_empty old read text r full);
       is_bad = bad_line t r.last (inr (is ∙ r.partial)) bad;
       standing = subst (λ x. Standing x r.ended text) (sym same) (stands_alike old between r.ended text alike r.standing);
@@ -116,7 +130,9 @@ pub stumbles_at : (old new : Replay) (piece behind : List ℕ) → EndsBadly old
 stumbles_at old new piece behind bad quiet read text r =
     let s = bad quiet read text r in
     record {
-      lines = s.lines; bad = s.bad;
+      lines = s.lines;
+      bad = s.bad;
       begins = subst (λ xs. Begins xs (s.lines ++ s.bad ∷ [])) (append_assoc read (piece ++ 10 ∷ []) behind) (begins_longer (read ++ (piece ++ 10 ∷ [])) behind (s.lines ++ s.bad ∷ []) s.begins);
-      is_bad = s.is_bad; standing = s.standing;
+      is_bad = s.is_bad;
+      standing = s.standing;
     }

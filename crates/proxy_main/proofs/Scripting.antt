@@ -1,7 +1,6 @@
 -- What was read of a script says which lines it begins with.
-use Rattle.std.proofs.Common.{◌≡◌, ℕ, zero, suc, ◌+◌, ◌-◌, ◌<◌, ◌≤◌, ◌==◌, Bool, true, false, ◌||◌, List, [], ◌∷◌, ◌++◌, length, take, drop, Option, Some, None, Result, Ok, Err, sym, ◌∙◌, ap, subst, refl, arith, append_assoc, length-append, nat_lt, if◌then◌else◌}
-use Rattle.std.specs.Prelude.{All}
-use Rattle.std.specs.List.{flat_map, list_any}
+use Rattle.std.proofs.Common.{◌≡◌, ℕ, zero, suc, ◌+◌, ◌-◌, ◌<◌, ◌≤◌, ◌==◌, Bool, true, false, ◌||◌, List, [], ◌∷◌, ◌++◌, length, take, sym, ◌∙◌, ap, subst, refl, arith, append_assoc, nat_lt, if◌then◌else◌}
+use Rattle.std.specs.List.{list_any}
 use Rattle.std.proofs.lemmas.Grind.{flat_map-append}
 use Rattle.std.proofs.lemmas.List.Elements.{All-append, All-cons, All-nil, All-head, All-tail}
 use Rattle.std.proofs.lemmas.Bool.{eqb-true, le-ltb, lt-ltb}
@@ -9,7 +8,7 @@ use Rattle.std.proofs.Math.Seq.{take-append-add}
 use Rattle.proxy_main.specs.Scripts.{HasNoBreak, Lines, Script, with_last, script_limit}
 use Rattle.proxy_main.specs.Run.{Begins}
 use Rattle.proxy_main.proofs.Answering.{append_nil}
-use Rattle.proxy_main.proofs.LineCuts.{joined, begins_longer, take_whole}
+use Rattle.proxy_main.proofs.LineCuts.{joined, begins_longer}
 
 -- each text is some lines and a last part
 pub record Cut (text : List ℕ) : Type 0 where
@@ -21,7 +20,8 @@ cut_more : (b : ℕ) (bs : List ℕ) (is_break : Bool) → (b == 10) ≡ is_brea
 cut_more b bs true e c =
     let is : b ≡ 10 = eqb-true b 10 e in
     record {
-      ended = [] ∷ c.ended; last = c.last;
+      ended = [] ∷ c.ended;
+      last = c.last;
       cut = record { whole = ap (λ x. x ∷ bs) is ∙ ap (λ xs. 10 ∷ xs) c.cut.whole; each = All-cons HasNoBreak [] c.ended refl c.cut.each; last_part = c.cut.last_part };
     }
 cut_more b bs false e c = longer c.ended c.last c.cut
@@ -29,13 +29,16 @@ cut_more b bs false e c = longer c.ended c.last c.cut
     or_of : (p q : Bool) → p ≡ false → q ≡ false → (p || q) ≡ false
     or_of true q p' q' = cc
     or_of false q p' q' = q'
+
     quiet : (l : List ℕ) → HasNoBreak l → HasNoBreak (b ∷ l)
     quiet l h = or_of (b == 10) (list_any (λ x. x == 10) l) e h
+
     longer : (ended : List (List ℕ)) (last : List ℕ) → Lines bs ended last → Cut (b ∷ bs)
     longer [] last cut = record { ended = []; last = b ∷ last; cut = record { whole = ap (λ xs. b ∷ xs) cut.whole; each = All-nil HasNoBreak; last_part = quiet last cut.last_part } }
     longer (l ∷ ls) last cut =
         record {
-          ended = (b ∷ l) ∷ ls; last = last;
+          ended = (b ∷ l) ∷ ls;
+          last = last;
           cut = record { whole = ap (λ xs. b ∷ xs) cut.whole; each = All-cons HasNoBreak (b ∷ l) ls (quiet l (All-head HasNoBreak l ls cut.each)) (All-tail HasNoBreak l ls cut.each); last_part = cut.last_part };
         }
 
@@ -91,7 +94,8 @@ not_longer (suc n) (x ∷ xs) le = let h : length xs ≤ n = omega arith in ap (
 pub whole_script : (script : List ℕ) (ended : List (List ℕ)) (last : List ℕ) → length script ≤ script_limit → Lines script ended last → Script script (with_last ended last)
 whole_script script ended last le cut =
     record {
-      ended = ended; last = last;
+      ended = ended;
+      last = last;
       cut = subst (λ xs. Lines xs ended last) (sym (not_longer script_limit script le)) cut;
       lines_are = ap (λ b. if b then ended else with_last ended last) (sym (le-ltb _ _ le));
     }
@@ -102,7 +106,8 @@ long_script script read rest ended last parts is beyond cut =
     let none : take (script_limit - length read) rest ≡ [] = ap (λ n. take n rest) (zero_left is) in
     let seen : take script_limit script ≡ read = ap (take script_limit) parts ∙ front_taken read rest (omega arith) ∙ ap (λ xs. read ++ xs) none ∙ append_nil read in
     record {
-      ended = ended; last = last;
+      ended = ended;
+      last = last;
       cut = subst (λ xs. Lines xs ended last) (sym seen) cut;
       lines_are = ap (λ b. if b then ended else with_last ended last) (sym (lt-ltb _ _ beyond));
     }

@@ -1,13 +1,11 @@
 -- What the lines of a script do, and what is answered to each: see docs/SCRIPTS.md.
-use Rattle.std.specs.Prelude.{◌≡◌, ℕ, Bool, true, false, List, [], ◌∷◌, ◌++◌, flat_map, length, Option, Some, None, Result, Ok, Err, MatchBool}
-use Rattle.kp_edge.specs.declared.end.End.{End}
+use Rattle.std.specs.Prelude.{◌≡◌, ℕ, Bool, true, false, List, [], ◌∷◌, ◌++◌, flat_map, length, Option, Some, None, Ok, Err, MatchBool}
 use Rattle.framing.specs.Cuts.{Cuts}
 use Rattle.conn_rules.specs.declared.event.Event.{Event}
 use Rattle.conn_rules.specs.declared.event.Event.TheVariants as event
 use Rattle.conn_rules.specs.declared.event.Fault.TheVariants as fault
 use Rattle.conn_rules.specs.declared.event.Reply.{Reply}
 use Rattle.conn_rules.specs.declared.event.Reply.TheVariants as reply
-use Rattle.conn_rules.specs.declared.event.Emit.{Emit}
 use Rattle.conn_rules.specs.declared.event.Emit.TheVariants as emit
 use Rattle.conn_rules.specs.declared.event.TakeFault.{TakeFault}
 use Rattle.conn_rules.specs.declared.event.TakeFault.TheVariants as take_fault

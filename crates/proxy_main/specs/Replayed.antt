@@ -1,6 +1,5 @@
 -- What `replay` makes of a script: the text that it writes, by its status.
-use Rattle.std.specs.Prelude.{◌≡◌, ℕ, ◌+◌, ◌<◌, ◌≤◌, List, [], ◌∷◌, ◌++◌, flat_map, length, Option, ◌⊎◌}
-use Rattle.conn_rules.specs.State.{State}
+use Rattle.std.specs.Prelude.{◌≡◌, ℕ, ◌+◌, ◌<◌, ◌≤◌, List, ◌∷◌, ◌++◌, flat_map, length, Option, ◌⊎◌}
 use Rattle.conn_rules.specs.History.{Entry, IsHistory, out, replies}
 use Rattle.conn_core.specs.Heartbeats.{heartbeats}
 use Rattle.transcript.specs.declared.line.Line.{Line}

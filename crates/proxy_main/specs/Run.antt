@@ -1,5 +1,5 @@
 -- A script that is read as its bytes come.
-use Rattle.std.specs.Prelude.{◌≡◌, ℕ, ◌+◌, ◌<◌, ◌≤◌, List, [], ◌∷◌, ◌++◌, length, take, flat_map, All}
+use Rattle.std.specs.Prelude.{◌≡◌, ℕ, ◌+◌, List, [], ◌∷◌, ◌++◌, length, take, flat_map, All}
 use Rattle.proxy_main.specs.Scripts.{Lines, HasNoBreak, with_last, IsBad, line_limit}
 use Rattle.proxy_main.specs.Replayed.{Answered}
 use Rattle.proxy_main.specs.Stationed.{Stationed}

@@ -5,7 +5,7 @@ use Rattle.proxy_main.specs.Scripts.{Script, IsBad, script_limit}
 use Rattle.proxy_main.specs.Replayed.{Answered, Replays}
 use Rattle.proxy_main.specs.declared.status.Status.{Status}
 use Rattle.proxy_main.specs.declared.status.Status.TheVariants as status
-use Rattle.proxy_main.specs.Run.{Begins, Standing, Reading}
+use Rattle.proxy_main.specs.Run.{Begins, Reading}
 use Rattle.proxy_main.specs.declared.replay.Replay.{Replay}
 use Rattle.proxy_main.specs.declared.stop.Stop.{Stop}
 use Rattle.proxy_main.specs.declared.stop.Stop.TheVariants as stop

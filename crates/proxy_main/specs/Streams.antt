@@ -1,5 +1,5 @@
 -- The two byte streams of a connection, as a script gives them piece by piece.
-use Rattle.std.specs.Prelude.{◌≡◌, ℕ, ◌+◌, ◌-◌, ◌||◌, Bool, true, false, is_some, if◌then◌else◌, List, [], ◌∷◌, ◌++◌, map, length, drop, Option, Some, None, ℤ}
+use Rattle.std.specs.Prelude.{◌≡◌, ℕ, ◌-◌, ◌||◌, Bool, false, is_some, if◌then◌else◌, List, [], ◌∷◌, ◌++◌, map, length, drop, Option, Some, None, ℤ}
 use Rattle.std.specs.List.{list_any}
 use Rattle.framing.specs.Frames.{bad_size}
 use Rattle.framing.specs.Cuts.{Cuts}

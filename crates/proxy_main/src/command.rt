@@ -12,7 +12,8 @@ use kp_edge::{Failed, Files, Sink, Source, Steps};
 use std::alloc::Global;
 
 // The one line that is written where the words are faulty.
-const USAGE: &[u8] = b"usage: kproxy replay [CONFIG CLUSTER] | check CONFIG | plan CONFIG | serve CONFIG | broker HOST PORT | load SEED N\n";
+const USAGE: &[u8] =
+    b"usage: kproxy replay [CONFIG CLUSTER] | check CONFIG | plan CONFIG | serve CONFIG | broker HOST PORT | load SEED N\n";
 
 // How many bytes of a script are read at a time, at most.
 const PIECE: usize = 65_536;

@@ -9,8 +9,11 @@ use transcript::{Answer, Line};
 
 // The sizes of a client's frames, and of a broker's, in bytes.
 const CLIENT_LEAST: u32 = 8;
+
 const CLIENT_MOST: u32 = 104_857_600;
+
 const BROKER_LEAST: u32 = 4;
+
 const BROKER_MOST: u32 = 134_217_728;
 
 // A connection with its two streams, on one thread.
@@ -120,5 +123,9 @@ impl Station {
 fn piece_answer(refused: bool) -> Answer
     ensures { result ≡ (if refused then Answer.Closed else Answer.Fine) }
 {
-    if refused { Answer::Closed } else { Answer::Fine }
+    if refused {
+        Answer::Closed
+    } else {
+        Answer::Fine
+    }
 }

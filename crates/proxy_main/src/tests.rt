@@ -188,10 +188,22 @@ fn runs(
     let pieces = vec![in alloc; piece; script.len()]?;
     let bytes = Blob::copy(alloc, script.as_bytes())?;
     let mut input = MemSource::new(bytes, pieces, Vec::from_slice(alloc, faults.reads)?);
-    let mut out = MemSink::new(alloc, 7, faults.room, Vec::from_slice(alloc, faults.writes)?)?;
+    let mut out = MemSink::new(
+        alloc,
+        7,
+        faults.room,
+        Vec::from_slice(alloc, faults.writes)?,
+    )?;
     let mut files = MemFiles::new(Vec::new(alloc), Vec::new(alloc));
     let mut steps = Steps::<()>::new();
-    let ended = run_command(alloc, words.as_slice(), &mut input, &mut out, &mut files, &mut steps);
+    let ended = run_command(
+        alloc,
+        words.as_slice(),
+        &mut input,
+        &mut out,
+        &mut files,
+        &mut steps,
+    );
     Ok(ended == status && out.bytes() == text.as_bytes())
 }
 
@@ -199,7 +211,15 @@ fn runs(
 fn scripts_are_answered_byte_for_byte(rt: HostRuntime) -> Result<(), Fail> {
     for case in CASES {
         for piece in [1, 2, 7, 4096] {
-            let same = runs(rt.alloc(), &["replay"], case.script, piece, &NONE, case.status, case.text)?;
+            let same = runs(
+                rt.alloc(),
+                &["replay"],
+                case.script,
+                piece,
+                &NONE,
+                case.status,
+                case.text,
+            )?;
             assert!(rt; same, "{} in pieces of {piece}", case.name);
         }
     }
@@ -214,8 +234,22 @@ fn a_failed_read_ends_behind_the_answers(rt: HostRuntime) -> Result<(), Fail> {
         (5, &[2], "none\nlater\n"),
     ];
     for (piece, reads, text) in table {
-        let faults = Faults { reads, writes: &[], room: 4096 };
-        assert!(rt; runs(rt.alloc(), &["replay"], "send\nemit\n", piece, &faults, Status::InputFault, text)?);
+        let faults = Faults {
+            reads,
+            writes: &[],
+            room: 4096,
+        };
+        assert!(rt;
+            runs(
+                rt.alloc(),
+                &["replay"],
+                "send\nemit\n",
+                piece,
+                &faults,
+                Status::InputFault,
+                text
+            )?
+        );
     }
     Ok(())
 }
@@ -229,15 +263,30 @@ fn a_failed_write_leaves_a_front(rt: HostRuntime) -> Result<(), Fail> {
         (&[], 6, "none\nl"),
     ];
     for (writes, room, text) in table {
-        let faults = Faults { reads: &[], writes, room };
-        assert!(rt; runs(rt.alloc(), &["replay"], "send\nemit\n", 4096, &faults, Status::OutputFault, text)?);
+        let faults = Faults {
+            reads: &[],
+            writes,
+            room,
+        };
+        assert!(rt;
+            runs(
+                rt.alloc(),
+                &["replay"],
+                "send\nemit\n",
+                4096,
+                &faults,
+                Status::OutputFault,
+                text
+            )?
+        );
     }
     Ok(())
 }
 
 #[test]
 fn other_words_are_told_the_usage(rt: HostRuntime) -> Result<(), Fail> {
-    let usage = "usage: kproxy replay [CONFIG CLUSTER] | check CONFIG | plan CONFIG | serve CONFIG | broker HOST PORT | load SEED N\n";
+    let usage =
+        "usage: kproxy replay [CONFIG CLUSTER] | check CONFIG | plan CONFIG | serve CONFIG | broker HOST PORT | load SEED N\n";
     let table: [&[&str]; 8] = [
         &[],
         &[""],
@@ -249,10 +298,34 @@ fn other_words_are_told_the_usage(rt: HostRuntime) -> Result<(), Fail> {
         &["play"],
     ];
     for words in table {
-        assert!(rt; runs(rt.alloc(), words, "send\n", 4096, &NONE, Status::Usage, usage)?);
+        assert!(rt;
+            runs(
+                rt.alloc(),
+                words,
+                "send\n",
+                4096,
+                &NONE,
+                Status::Usage,
+                usage
+            )?
+        );
     }
-    let faults = Faults { reads: &[], writes: &[1], room: 4096 };
-    assert!(rt; runs(rt.alloc(), &[], "", 4096, &faults, Status::OutputFault, "usage: ")?);
+    let faults = Faults {
+        reads: &[],
+        writes: &[1],
+        room: 4096,
+    };
+    assert!(rt;
+        runs(
+            rt.alloc(),
+            &[],
+            "",
+            4096,
+            &faults,
+            Status::OutputFault,
+            "usage: "
+        )?
+    );
     Ok(())
 }
 

@@ -1,6 +1,5 @@
-use Rattle.std.proofs.Common.{◌≡◌, ◌⊎◌, Ok, Err, List, ℕ, [], ◌++◌, inl, inr, sym, subst, refl}
+use Rattle.std.proofs.Common.{[], inl, inr, sym, subst, refl}
 use Rattle.std.specs.Prelude.{IsErrOf}
-use Rattle.kp_edge.specs.Counts.{Rose}
 use Rattle.proxy_main.specs.Runs.{ReadEnds}
 use Rattle.proxy_main.specs.declared.stop.Stop.TheVariants as stop
 use Rattle.proxy_main.proofs.Opening.{opened, appends_none, front_of_none}

@@ -1,4 +1,4 @@
-use Rattle.std.proofs.Common.{◌≡◌, ◌≤◌, ◌++◌, take, drop, ◌∙◌, ap, sym, arith, append_assoc}
+use Rattle.std.proofs.Common.{◌++◌, take, drop, ◌∙◌, ap, sym, arith, append_assoc}
 use Rattle.std.proofs.lemmas.List.{take-append-drop}
 use Rattle.proxy_main.proofs.Outputs.{Appends-more}
 use Rattle.proxy_main.proofs.output.write_all.Goals as goal

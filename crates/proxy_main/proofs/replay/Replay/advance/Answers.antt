@@ -1,9 +1,9 @@
-use Rattle.std.proofs.Common.{refl, ◌∙◌, ◌≡◌, sym, ap, subst, ◌++◌, ◌+◌, ◌∷◌, [], drop, take, Err}
+use Rattle.std.proofs.Common.{refl, ◌∙◌, ◌≡◌, sym, ap, subst, ◌++◌, ◌+◌, ◌∷◌, [], drop, Err}
 use Rattle.std.proofs.lemmas.List.{take-append-drop}
 use Rattle.proxy_main.specs.Scripts.{HasNoBreak}
 use Rattle.proxy_main.specs.Run.{Advances, Stumbles}
 use Rattle.proxy_main.proofs.LineCuts.{first_break, no_break, take_whole}
-use Rattle.proxy_main.proofs.Reading.{Alike, goes_on, stumbles_at}
+use Rattle.proxy_main.proofs.Reading.{goes_on, stumbles_at}
 use Rattle.proxy_main.specs.declared.stop.LineStop.TheVariants.{BadLine}
 use Rattle.proxy_main.proofs.replay.Replay.advance.Goals as goal
 

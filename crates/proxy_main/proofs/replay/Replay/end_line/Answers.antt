@@ -1,7 +1,7 @@
-use Rattle.std.proofs.Common.{refl, ◌∙◌, ◌≡◌, ap}
+use Rattle.std.proofs.Common.{refl, ◌∙◌, ap}
 use Rattle.proxy_main.proofs.LineCuts.{empty_vec}
 use Rattle.proxy_main.proofs.Pieces.{on_ok_then}
-use Rattle.proxy_main.proofs.Reading.{Alike, ends, ends_badly, tells_new, tells_kept}
+use Rattle.proxy_main.proofs.Reading.{ends, ends_badly, tells_new, tells_kept}
 use Rattle.proxy_main.proofs.replay.Replay.end_line.Goals as goal
 
 pub returns-then-is_empty-clause-ok : goal.returns-then-is_empty-clause-ok

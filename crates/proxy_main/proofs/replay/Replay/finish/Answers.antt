@@ -1,7 +1,7 @@
-use Rattle.std.proofs.Common.{refl, ◌∙◌, ◌≡◌, ap}
+use Rattle.std.proofs.Common.{refl, ◌∙◌, ap}
 use Rattle.proxy_main.proofs.LineCuts.{empty_vec, full_vec}
 use Rattle.proxy_main.proofs.Pieces.{on_ok_then}
-use Rattle.proxy_main.proofs.Reading.{Alike, finishes_empty, finishes, finishes_badly}
+use Rattle.proxy_main.proofs.Reading.{finishes_empty, finishes, finishes_badly}
 use Rattle.proxy_main.proofs.replay.Replay.finish.Goals as goal
 
 pub returns-then-is_empty-clause-ok : goal.returns-then-is_empty-clause-ok

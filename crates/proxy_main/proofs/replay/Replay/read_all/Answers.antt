@@ -1,4 +1,4 @@
-use Rattle.std.proofs.Common.{◌≡◌, refl, sym, subst, ap, Err, [], ◌-◌, arith}
+use Rattle.std.proofs.Common.{refl, sym, subst, ap, Err, [], ◌-◌, arith}
 use Rattle.proxy_main.specs.Runs.{ReadEnds}
 use Rattle.proxy_main.proofs.Going.{finish_whole, finish_stops}
 use Rattle.proxy_main.proofs.replay.Replay.read_all.Goals as goal

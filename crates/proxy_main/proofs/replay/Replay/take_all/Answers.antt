@@ -1,8 +1,7 @@
-use Rattle.std.proofs.Common.{refl, ◌≡◌, ◌≤◌, ◌++◌, ◌∙◌, sym, ap, subst, take, drop, arith, append_assoc, Err}
+use Rattle.std.proofs.Common.{◌≡◌, ◌++◌, ◌∙◌, sym, ap, subst, take, drop, arith, append_assoc, Err}
 use Rattle.std.proofs.lemmas.List.{take-append-drop}
 use Rattle.proxy_main.specs.Runs.{TakeStops}
 use Rattle.proxy_main.specs.Stops.{stop_of}
-use Rattle.proxy_main.specs.declared.stop.LineStop.TheVariants as line_stop
 use Rattle.proxy_main.specs.declared.stop.Stop.TheVariants as stop
 use Rattle.proxy_main.proofs.Going.{takes_more, stops_at, stops_writing}
 use Rattle.proxy_main.proofs.replay.Replay.take_all.Goals as goal

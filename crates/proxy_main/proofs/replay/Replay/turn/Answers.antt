@@ -1,4 +1,4 @@
-use Rattle.std.proofs.Common.{◌≡◌, ◌<◌, ◌≤◌, subst, sym, refl, arith, take, Some}
+use Rattle.std.proofs.Common.{◌≤◌, subst, refl, arith, take}
 use Rattle.std.specs.Prelude.{IfSome}
 use Rattle.kp_edge.specs.Source.{Gives}
 use Rattle.proxy_main.specs.Runs.{TakesAll, TakeStops}
@@ -17,14 +17,14 @@ pub returns-in-Ok-take_all-clause-turn : goal.returns-in-Ok-take_all-clause-turn
 returns-in-Ok-take_all-clause-turn g c script first k =
     let gives : Gives c.in-Ok-read.count k.rest (g.I.Source.left c.read.new.self) c.read.new.buf = subst (λ o. IfSome o (λ xs. Gives c.in-Ok-read.count xs (g.I.Source.left c.read.new.self) c.read.new.buf)) k.left_is c.in-Ok-read.ensures.bytes in
     turn_too_long script c.args.self.now c.flush.new.self (g.I.Source.left c.args.input.now) first (g.O.Sink.taken c.args.out.now) (g.O.Sink.taken c.flush.new.out) c.args.left k c.in-Ok.ensures.ok c.take_all.new.self c.in-Ok-read.count c.read.new.buf (g.I.Source.left c.read.new.self) (g.I.Source.left c.read.new.self) (g.O.Sink.taken c.take_all.new.out) gives c.if-count-left.true
-      (subst (λ xs. TakesAll c.flush.new.self (g.O.Sink.taken c.flush.new.out) xs c.take_all.new.self (g.O.Sink.taken c.take_all.new.out)) c.split_at.ensures.front c.in-Ok-take_all.ensures.ok)
+    (subst (λ xs. TakesAll c.flush.new.self (g.O.Sink.taken c.flush.new.out) xs c.take_all.new.self (g.O.Sink.taken c.take_all.new.out)) c.split_at.ensures.front c.in-Ok-take_all.ensures.ok)
 
 pub returns-in-Err-take_all-clause-turn : goal.returns-in-Err-take_all-clause-turn
 returns-in-Err-take_all-clause-turn g c script first k =
     let gives : Gives c.in-Ok-read.count k.rest (g.I.Source.left c.read.new.self) c.read.new.buf = subst (λ o. IfSome o (λ xs. Gives c.in-Ok-read.count xs (g.I.Source.left c.read.new.self) c.read.new.buf)) k.left_is c.in-Ok-read.ensures.bytes in
     let below : c.args.left ≤ c.in-Ok-read.count = omega (arith, c.if-count-left.true) in
     turn_stopped script c.args.self.now c.flush.new.self (g.I.Source.left c.args.input.now) first (g.O.Sink.taken c.args.out.now) (g.O.Sink.taken c.flush.new.out) c.args.left k c.in-Ok.ensures.ok c.take_all.new.self c.in-Ok-read.count c.read.new.buf (take c.in-Ok-read.count c.read.new.buf) (g.I.Source.left c.read.new.self) (g.I.Source.left c.read.new.self) (g.O.Sink.taken c.take_all.new.out) c.in-Err-take_all.stop gives refl c.args.left (omega arith) below
-      (subst (λ xs. TakeStops c.flush.new.self (g.O.Sink.taken c.flush.new.out) xs c.take_all.new.self (g.O.Sink.taken c.take_all.new.out) c.in-Err-take_all.stop) c.split_at.ensures.front c.in-Err-take_all.ensures.err)
+    (subst (λ xs. TakeStops c.flush.new.self (g.O.Sink.taken c.flush.new.out) xs c.take_all.new.self (g.O.Sink.taken c.take_all.new.out) c.in-Err-take_all.stop) c.split_at.ensures.front c.in-Err-take_all.ensures.err)
 
 pub returns-in-Ok-take_all-2-clause-turn : goal.returns-in-Ok-take_all-2-clause-turn
 returns-in-Ok-take_all-2-clause-turn g c script first k =
@@ -35,4 +35,4 @@ pub returns-in-Err-take_all-2-clause-turn : goal.returns-in-Err-take_all-2-claus
 returns-in-Err-take_all-2-clause-turn g c script first k =
     let gives : Gives c.in-Ok-read.count k.rest (g.I.Source.left c.read.new.self) c.read.new.buf = subst (λ o. IfSome o (λ xs. Gives c.in-Ok-read.count xs (g.I.Source.left c.read.new.self) c.read.new.buf)) k.left_is c.in-Ok-read.ensures.bytes in
     turn_stopped script c.args.self.now c.flush.new.self (g.I.Source.left c.args.input.now) first (g.O.Sink.taken c.args.out.now) (g.O.Sink.taken c.flush.new.out) c.args.left k c.in-Ok.ensures.ok c.take_all-2.new.self c.in-Ok-read.count c.read.new.buf (take c.in-Ok-read.count c.read.new.buf) (g.I.Source.left c.read.new.self) (g.I.Source.left c.read.new.self) (g.O.Sink.taken c.take_all-2.new.out) c.in-Err-take_all-2.stop gives refl c.in-Ok-read.count c.if-count-left.false (omega arith)
-      (subst (λ xs. TakeStops c.flush.new.self (g.O.Sink.taken c.flush.new.out) xs c.take_all-2.new.self (g.O.Sink.taken c.take_all-2.new.out) c.in-Err-take_all-2.stop) c.split_at-2.ensures.front c.in-Err-take_all-2.ensures.err)
+    (subst (λ xs. TakeStops c.flush.new.self (g.O.Sink.taken c.flush.new.out) xs c.take_all-2.new.self (g.O.Sink.taken c.take_all-2.new.out) c.in-Err-take_all-2.stop) c.split_at-2.ensures.front c.in-Err-take_all-2.ensures.err)

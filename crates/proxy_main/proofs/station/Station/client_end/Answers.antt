@@ -15,11 +15,17 @@ returns c p h =
     let m = c.client_end.ensures p.state h.core in
     let q = record p { client = record p.client { ended = true }; state = m.0 } in
     let f = h.client in
-    let hs = record { actor = 0; event = event.ClientEnd (length c.args.self.now.client.rest); reply = reply.Noted } ∷ [] in
-    (hs, q,
-     match_false _ _ _ (h.client_ended ∙ c.if-self.false) (record {
-       frames = f.frames; tail = c.args.self.now.client.rest; cut = f.cut;
-       events = subst (λ n. Happens heartbeats p.state (event.ClientEnd n ∷ []) (record { actor = 0; event = event.ClientEnd n; reply = reply.Noted } ∷ []) m.0) c.rest-rest.ensures (happened p.state _ reply.Noted m.0 refl m.1);
-       client = refl; other = refl; answered = refl;
-     }),
-     record { core = m.2; client = record { least = f.least; most = f.most; frames = f.frames; cut = f.cut; place = f.place; handed = f.handed }; broker = h.broker; client_ended = refl; client_told = h.client_told; broker_ended = h.broker_ended; broker_told = h.broker_told })
+    let hs = record { actor = 0; event = event.ClientEnd (length c.args.self.now.client.rest); reply = reply.Noted } ∷ [] in (
+      hs,
+      q,
+      match_false _ _ _ (h.client_ended ∙ c.if-self.false) (record {
+        frames = f.frames;
+        tail = c.args.self.now.client.rest;
+        cut = f.cut;
+        events = subst (λ n. Happens heartbeats p.state (event.ClientEnd n ∷ []) (record { actor = 0; event = event.ClientEnd n; reply = reply.Noted } ∷ []) m.0) c.rest-rest.ensures (happened p.state _ reply.Noted m.0 refl m.1);
+        client = refl;
+        other = refl;
+        answered = refl;
+      }),
+      record { core = m.2; client = record { least = f.least; most = f.most; frames = f.frames; cut = f.cut; place = f.place; handed = f.handed }; broker = h.broker; client_ended = refl; client_told = h.client_told; broker_ended = h.broker_ended; broker_told = h.broker_told },
+    )
