@@ -1,6 +1,8 @@
 //! The program kproxy: it hands the machine's streams and files, and the words behind its own name, to
 //! [`proxy_main::run_command`], and ends with the number of the status that comes back. What the words
 //! say, and what is written for them, is told there.
+#![tactic(auto)]
+
 ghost use Rattle.std.specs.Prelude.{◌≡◌, drop};
 ghost use Rattle.std.specs.Process.{exit_status};
 ghost use Rattle.proxy_main.specs.Words.{status_number};
