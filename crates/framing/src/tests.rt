@@ -247,6 +247,39 @@ fn frames_with_no_head(rt: HostRuntime) {
     }
 }
 
+// A client id has 32,767 bytes at most.
+#[test]
+fn the_longest_client_id(rt: HostRuntime) -> Result<(), Fail> {
+    let text = vec![in rt.alloc(); b'c'; 32_768]?;
+    let longest = text.as_slice().split_at(32_767).0;
+    let mut head = RequestHead {
+        key: 12,
+        version: 0,
+        correlation_id: 1,
+        client_id: Some(Bytes::copy_from_slice(rt.alloc(), longest)?),
+    };
+    let frame = spelled(rt.alloc(), &head, &Bytes::from_static(&[9]))
+        .ok()
+        .ok_or("memory")?;
+    assert_eq!(rt; frame.len(), 8 + 2 + 32_767 + 1);
+    assert_eq!(rt;
+        frame.as_slice().split_at(10).0,
+        [0, 12, 0, 0, 0, 0, 0, 1, 0x7f, 0xff].as_slice()
+    );
+    let (read, body) = RequestHead::read(&frame).ok().ok_or("a head")?;
+    assert_eq!(rt; read, head);
+    assert_eq!(rt; body.as_slice(), [9].as_slice());
+
+    head.client_id = Some(Bytes::copy_from_slice(rt.alloc(), text.as_slice())?);
+    let mut out = Writer::new(rt.alloc());
+    assert_eq!(rt;
+        head.write(&mut out),
+        Err(PutFault::TooLong { length: 32_768 })
+    );
+    assert_eq!(rt; out.len(), 0);
+    Ok(())
+}
+
 #[test]
 fn heads_of_responses(rt: HostRuntime) -> Result<(), Fail> {
     let frame = Bytes::from_static(&[0, 0, 0, 13, 5, 6]);
