@@ -4,6 +4,7 @@ Each script is run once with its output compared with what is wanted, and then t
 least time of some runs counts. Scripts lie in a temporary folder, which is removed.
 """
 
+import collections
 import os
 import shutil
 import subprocess
@@ -13,12 +14,14 @@ import time
 from pathlib import Path
 from typing import NamedTuple
 
-RUNS = 5
+RUNS = 15
 TIME = "/usr/bin/time"  # GNU time, for the peak memory
 MOST_GROWTH = 1.3  # time per byte of the larger script over that of the smaller
 LEAST_SPEED = 0.2  # of whole frames, over the speed of xxd
 
 PIECE = 64 * 1024
+WHOLE = 1 << 30
+MOST_FRAME = 104_857_600  # bytes of a client's frame
 
 
 class Exchange(NamedTuple):
@@ -46,24 +49,65 @@ def pieces_of(data, size):
     return [data[at : at + size] for at in range(0, len(data), size)]
 
 
+def request_lines(it, piece):
+    yield from ((f"client {part.hex()}", "ok") for part in pieces_of(it.request, piece))
+    yield "send", f"to-broker {it.sent.hex()}"
+
+
+def answer_lines(it, piece):
+    yield from ((f"broker {part.hex()}", "ok") for part in pieces_of(it.answer, piece))
+    yield "emit", f"to-client {it.response.hex()}"
+
+
+def one_by_one(exchanges, piece):
+    """Each request is answered before the next one comes."""
+    for it in exchanges:
+        yield from request_lines(it, piece)
+        yield from answer_lines(it, piece)
+
+
+def in_flight(exchanges, piece, count=16):
+    """So many requests are in flight: the oldest is answered, and then the next one comes."""
+    waiting = collections.deque()
+    for it in exchanges:
+        if len(waiting) == count:
+            yield from answer_lines(waiting.popleft(), piece)
+        waiting.append(it)
+        yield from request_lines(it, piece)
+    for it in waiting:
+        yield from answer_lines(it, piece)
+
+
+def held():
+    """Two client frames of the greatest size find room, and a third of any size finds none until one is passed."""
+    first, second = (exchange(number, bytes(MOST_FRAME - 8)) for number in range(2))
+    third, fourth = (exchange(number) for number in range(2, 4))
+    yield f"client {first.request.hex()}", "ok"
+    yield f"client {second.request.hex()}", "ok"
+    yield f"client {third.request.hex()}", "full"
+    yield "client -", "full"
+    yield "send", f"to-broker {first.sent.hex()}"
+    yield f"broker {first.answer.hex()}", "ok"
+    yield "emit", f"to-client {first.response.hex()}"
+    yield f"client {fourth.request.hex()}", "ok"
+    yield "send", f"to-broker {second.sent.hex()}"
+    for it in (third, fourth):
+        yield "send", f"to-broker {it.sent.hex()}"
+    for it in (second, third, fourth):
+        yield from answer_lines(it, MOST_FRAME)
+
+
 class Script:
     """A script as a file, the file of its hexadecimal digits alone, and the file of what it is to write."""
 
-    def __init__(self, folder, name, exchanges, piece):
-        self.name = name
+    def __init__(self, folder, lines):
         self.text, self.digits, self.wanted = (Path(folder, part) for part in ("text", "digits", "wanted"))
         with open(self.text, "w") as text, open(self.digits, "w") as digits, open(self.wanted, "w") as wanted:
-            for it in exchanges:
-                for side, frame, asks, gives in (
-                    ("client", it.request, "send", f"to-broker {it.sent.hex()}"),
-                    ("broker", it.answer, "emit", f"to-client {it.response.hex()}"),
-                ):
-                    for part in pieces_of(frame, piece):
-                        text.write(f"{side} {part.hex()}\n")
-                        digits.write(f"{part.hex()}\n")
-                        wanted.write("ok\n")
-                    text.write(f"{asks}\n")
-                    wanted.write(f"{gives}\n")
+            for line, answer in lines:
+                text.write(f"{line}\n")
+                wanted.write(f"{answer}\n")
+                if " " in line:
+                    digits.write(f"{line.split()[1]}\n")
             text.write("client-end\nemit\n")
             wanted.write("ok\nover ended\n")
 
@@ -90,8 +134,8 @@ def run(words, source, output):
     return Timing(seconds, int(note.read_text().split()[-1]) if timed else usage.ru_maxrss)
 
 
-def least(words, source):
-    timings = [run(words, source, os.devnull) for _ in range(RUNS)]
+def least(words, source, runs=RUNS):
+    timings = [run(words, source, os.devnull) for _ in range(runs)]
     return Timing(min(it.seconds for it in timings), max(it.peak for it in timings))
 
 
@@ -111,20 +155,28 @@ def row(name, size, timing, start_up):
     return work
 
 
-def measured(words, folder, name, exchanges, piece, start_up):
-    script = Script(folder, name, exchanges, piece)
+def measured(words, folder, name, lines, start_up, runs=RUNS):
+    script = Script(folder, lines)
     written = Path(folder, "written")
     run(words, script.text, written)
     if not is_same(written, script.wanted):
         sys.exit(f"bench: {name}: what was written is not what is wanted")
     written.unlink()
     size = script.text.stat().st_size
-    return script, size, row(name, size, least(words, script.text), start_up)
+    return script, size, row(name, size, least(words, script.text, runs), start_up)
 
 
 def verdict(name, number, wanted, is_met):
     print(f"{name:<66} {number:>6.2f}  ({wanted}) {'ok' if is_met else 'MISSED'}")
     return is_met
+
+
+def beats(count):
+    return map(exchange, range(count))
+
+
+def one_of(size):
+    return [exchange(0, bytes(size - 8))]
 
 
 def main():
@@ -137,22 +189,24 @@ def main():
         start = least(program, nothing)
         row("the empty script", 0, start, 0)
         cases = [
-            ("whole frames", lambda n: map(exchange, range(n)), "exchanges", (10_000, 100_000), 1 << 30),
-            ("one-byte pieces", lambda n: map(exchange, range(n)), "exchanges", (1_000, 10_000), 1),
-            ("one frame in 64 KiB", lambda n: [exchange(0, bytes(n - 8))], "bytes", (5_000_000, 50_000_000), PIECE),
+            ("whole frames", one_by_one, beats, "exchanges", (10_000, 100_000), WHOLE),
+            ("sixteen in flight", in_flight, beats, "exchanges", (10_000, 100_000), WHOLE),
+            ("one-byte pieces", one_by_one, beats, "exchanges", (1_000, 10_000), 1),
+            ("one frame in 64 KiB", one_by_one, one_of, "bytes", (5_000_000, 50_000_000), PIECE),
         ]
-        for name, exchanges, unit, counts, piece in cases:
+        for name, order, exchanges, unit, counts, piece in cases:
             rates = []
             for count in counts:
                 label = f"{name}: {count:,} {unit}"
-                script, size, work = measured(program, folder, label, exchanges(count), piece, start.seconds)
+                script, size, work = measured(program, folder, label, order(exchanges(count), piece), start.seconds)
                 rates.append(work / size)
             growths.append((name, rates[1] / rates[0]))
-            if piece > PIECE and shutil.which("xxd"):
+            if name == "whole frames" and shutil.which("xxd"):
                 size = script.digits.stat().st_size
                 xxd = ["xxd", "-r", "-p"]
                 reader = row("xxd -r -p on the digits of the last", size, least(xxd, script.digits), least(xxd, nothing).seconds)
                 ratio = (size / work) / (size / reader)
+        measured(program, folder, "two frames of 104,857,600 held, a third full", held(), start.seconds, 1)
     print()
     met = [
         verdict(f"time per byte, larger over smaller: {name}", growth, f"at most {MOST_GROWTH}", growth <= MOST_GROWTH)

@@ -1,3 +1,5 @@
-pub mod Messages
 pub mod Requests
+pub mod Messages
 pub mod Events
+pub mod Starts
+pub mod Ready

@@ -1,4 +1,6 @@
-pub mod Heartbeats
+pub mod Heads
+pub mod Kinds
+pub mod Whole
 pub mod Slots
 pub mod Kept
 pub mod Stands

@@ -1,27 +1,16 @@
 ghost use Rattle.std.specs.Prelude.{◌≡◌, ◌+◌, ◌<◌, ◌≤◌, ◌^◌, ◌++◌, length, pos, IfOk};
 ghost use Rattle.conn_rules.specs.State.{sized, found_id, upstream_id};
-ghost use Rattle.conn_core.specs.Heartbeats.{is_heartbeat, client_id};
+ghost use Rattle.conn_core.specs.Heads.{own_id};
+ghost use Rattle.conn_core.specs.Whole.{IsWhole};
 
 use bytes::Bytes;
 use kp_edge::NoMemory;
 use std::alloc::Global;
 
-const HEARTBEAT: u16 = 12;
-
-const NEWEST_HEARTBEAT: u16 = 3;
-
-pub(crate) fn is_heartbeat(frame: &[u8]) -> bool
+/// The client's own correlation id, as it came.
+pub(crate) fn own_id(frame: &[u8]) -> [u8; 4]
     requires { 8 ≤ length frame.now }
-    ensures { result ≡ is_heartbeat frame.now }
-{
-    let key = u16::from_be_bytes([frame[0], frame[1]]);
-    let version = u16::from_be_bytes([frame[2], frame[3]]);
-    key == HEARTBEAT && version <= NEWEST_HEARTBEAT
-}
-
-pub(crate) fn client_id(frame: &[u8]) -> [u8; 4]
-    requires { 8 ≤ length frame.now }
-    ensures { result ≡ client_id frame.now }
+    ensures { result ≡ own_id frame.now }
 {
     [frame[4], frame[5], frame[6], frame[7]]
 }
@@ -50,7 +39,8 @@ pub(crate) fn wire_frame(
     behind: &[u8],
 ) -> Result<Bytes, NoMemory>
     requires { length before.now + length behind.now < 2 ^ 63 }
-    ensures { IfOk result (λ frame. frame ≡ sized (before.now ++ id ++ behind.now)) }
+    ensures spelled { IfOk result (λ frame. frame ≡ sized (before.now ++ id ++ behind.now)) }
+    ensures whole { IfOk result IsWhole }
 {
     let Ok(size) = i32::try_from(before.len() + 4 + behind.len()) else {
         return Err(NoMemory);

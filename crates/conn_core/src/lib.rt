@@ -6,18 +6,20 @@
 //!   client <--emit-- response, in its slot <--answer-- broker frame
 //! ```
 //!
-//! Each call is one event of the machine of `conn_rules`, over the meaning `heartbeats`. It reads no socket,
-//! cuts no stream, and looks at no byte behind a request's first eight or an answer's first four.
+//! Each call is one event of the machine of `conn_rules`, over the meaning `heads`: what a request is asked by its
+//! head, and bodies pass unread. It reads no socket and cuts no stream.
 #![tactic(auto)]
 
 mod connection;
 mod frames;
+mod kinds;
 mod laws;
-mod served;
 mod slot;
+#[cfg(test)]
+mod steady;
 #[cfg(test)]
 mod tests;
 
-pub use conn_rules::{AnswerFault, Emit, Fault, TakeFault};
+pub use conn_rules::{AnswerFault, CompleteFault, Emit, Fault, Look, TakeFault, Ticket};
 pub use connection::Core;
-pub use laws::{heartbeats_law, late_frames_law};
+pub use laws::heads_law;

@@ -1,5 +1,5 @@
 -- An end that was told is told ever after.
-use Rattle.std.proofs.Common.{◌≡◌, ◌∙◌, ℕ, zero, suc, length, arith, Bool, true, false, ◌||◌, if◌then◌else◌, List, [], ◌∷◌, ◌++◌, All, refl, sym, subst, Option, Some, None, slice_get, inl, inr}
+use Rattle.std.proofs.Common.{◌≡◌, ◌∙◌, ℕ, zero, suc, length, arith, Bool, true, false, if◌then◌else◌, List, [], ◌∷◌, ◌++◌, All, refl, sym, subst, Option, Some, None, slice_get, inl, inr}
 use Rattle.kp_edge.specs.declared.end.End.{End}
 use Rattle.conn_rules.specs.declared.event.Event.{Event}
 use Rattle.conn_rules.specs.declared.event.Event.TheVariants as event
@@ -7,7 +7,7 @@ use Rattle.conn_rules.specs.declared.event.Reply.{Reply}
 use Rattle.conn_rules.specs.declared.event.Reply.TheVariants as reply
 use Rattle.conn_rules.specs.declared.event.Emit.TheVariants as emit
 use Rattle.conn_rules.specs.Meaning.{Meaning}
-use Rattle.conn_rules.specs.State.{State, opening, is_ending, is_still, in_flight, held}
+use Rattle.conn_rules.specs.State.{State, opening, is_ending, in_flight, held}
 use Rattle.conn_rules.specs.Steps.{joined, response_in, silent_passed, cause_at, over_or, respond_or, told_again, emit_step, answer_to, memory_answer, May}
 use Rattle.conn_rules.specs.History.{Entry, Runs, IsHistory, IsTold, IsToldIfEmit}
 use Rattle.conn_rules.proofs.Keeps.{keeps_settling}
@@ -78,8 +78,7 @@ module _ (M : Meaning) (why : End) where
 
   take_over : (s : State) (frame : List ℕ) → s.over ≡ Some why → (answer_to M s (event.Take frame)).1.over ≡ Some why
   take_over s frame over =
-      either (is_still s || M.serves s (event.Take frame)) _ _
-      (either (is_ending s) _ _ over (either (M.room (in_flight s) (held s) (length frame)) _ _ (refusal_over s (M.refusal frame) frame over) over)) over
+      either (is_ending s) _ _ over (either (M.room (in_flight s) (held s) (length frame)) _ _ (refusal_over s (M.refusal frame) frame over) over)
 
   over_answer : (s : State) (e : Event) → s.over ≡ Some why → (answer_to M s e).1.over ≡ Some why
   over_answer s (event.Take frame) over = take_over s frame over

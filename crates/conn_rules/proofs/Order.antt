@@ -1,6 +1,6 @@
 -- The law of order. At every moment the requests that emit steps passed are done, and what was emitted is their
 -- responses, one after another.
-use Rattle.std.proofs.Common.{◌≡◌, ◌∙◌, ap, ℕ, zero, suc, ◌+◌, Bool, true, false, ◌&&◌, ◌||◌, is_some, if◌then◌else◌, List, [], ◌∷◌, ◌++◌, refl, sym, take, drop, length, append_assoc, Option, Some, None, Ok, slice_get, inl, inr, zero-add, add-one, suc-add}
+use Rattle.std.proofs.Common.{◌≡◌, ◌∙◌, ap, ℕ, zero, suc, ◌+◌, Bool, true, false, ◌&&◌, is_some, if◌then◌else◌, List, [], ◌∷◌, ◌++◌, refl, sym, take, drop, length, append_assoc, Option, Some, None, Ok, slice_get, inl, inr, zero-add, add-one, suc-add}
 use Rattle.std.proofs.lemmas.List.{append-nil}
 use Rattle.std.specs.List.{flat_map}
 use Rattle.kp_edge.specs.declared.end.End.{End}
@@ -11,7 +11,7 @@ use Rattle.conn_rules.specs.declared.event.Reply.{Reply}
 use Rattle.conn_rules.specs.declared.event.Reply.TheVariants as reply
 use Rattle.conn_rules.specs.declared.event.Emit.TheVariants as emit
 use Rattle.conn_rules.specs.Meaning.{Meaning, Lasting, Status, Waits, Done, Fails}
-use Rattle.conn_rules.specs.State.{Request, State, opening, below, halted, is_ending, is_still, in_flight, held}
+use Rattle.conn_rules.specs.State.{Request, State, opening, below, halted, is_ending, in_flight, held}
 use Rattle.conn_rules.specs.Settling.{Settles}
 use Rattle.conn_rules.specs.Steps.{joined, response_of, response_in, silent_run, silent_passed, cause_at, over_or, respond_or, told_again, emit_step, answer_to, May}
 use Rattle.conn_rules.specs.History.{Entry, Runs, IsHistory, to_client, out, response_bytes, replies}
@@ -172,10 +172,8 @@ module _ (M : Meaning) (lasting : Lasting M) (s : State) (done : AllDone M s.emi
 
   passes_take : (frame : List ℕ) → Passes M s (answer_to M s (event.Take frame))
   passes_take frame =
-      passes_either M s (is_still s || M.serves s (event.Take frame)) _ _
-      (passes_either M s (is_ending s) _ _ (passes_same _ refl)
-      (passes_either M s (M.room (in_flight s) (held s) (length frame)) _ _ (passes_refusal (M.refusal frame) frame) (passes_same _ refl)))
-      (passes_quiet M lasting s [] _ done (keeps_halted end.NotBuilt s) refl)
+      passes_either M s (is_ending s) _ _ (passes_same _ refl)
+      (passes_either M s (M.room (in_flight s) (held s) (length frame)) _ _ (passes_refusal (M.refusal frame) frame) (passes_same _ refl))
 
   passes_silently : (e : Event) → IsQuiet e → Passes M s (answer_to M s e)
   passes_silently e is =

@@ -13,8 +13,8 @@ use Rattle.conn_rules.specs.declared.event.TakeFault.TheVariants as take_fault
 use Rattle.conn_rules.specs.declared.event.AnswerFault.TheVariants as answer_fault
 use Rattle.conn_rules.specs.declared.event.CompleteFault.TheVariants as complete_fault
 use Rattle.conn_rules.specs.Meaning.{Meaning}
-use Rattle.conn_rules.specs.State.{Body, Verdict, Sent, State, below, halted, is_dead, is_still, upstream_id, found_id, due_send, waiting}
-use Rattle.conn_rules.specs.Steps.{read_body, matched, attributed, answer_step, open_hold, is_hold, complete_step, client_end, client_ended, broker_ended, faulted, noted, sent_next, first_hold, picked_next, if_served, answer_to, memory_answer}
+use Rattle.conn_rules.specs.State.{Body, Verdict, Sent, State, below, is_dead, is_still, upstream_id, found_id, due_send, waiting}
+use Rattle.conn_rules.specs.Steps.{read_body, matched, attributed, answer_step, open_hold, is_hold, complete_step, client_end, client_ended, broker_ended, faulted, noted, sent_next, first_hold, picked_next, answer_to, memory_answer}
 use Rattle.conn_rules.specs.History.{to_client}
 use Rattle.conn_rules.proofs.Keeps.{Keeps, keeps_all, keeps_same, keeps_keeps, keeps_either, keeps_give, keeps_cut, keeps_dead, keeps_halted}
 
@@ -42,10 +42,6 @@ quiet_either s false x y h k = k
 module _ (M : Meaning) (s : State) where
   pub quiet_same : (r : Reply) → to_client r ≡ [] → Quiet s (r, s)
   quiet_same r none = record { keeps = keeps_same s; silent = none }
-
-  quiet_served : (e : Event) (taken : Reply) (step : Reply × State) → to_client taken ≡ [] → Quiet s step → Quiet s (if_served M s e taken step)
-  quiet_served e taken step none h =
-      quiet_either s (is_still s || M.serves s e) step (taken, halted end.NotBuilt s) h (record { keeps = keeps_halted end.NotBuilt s; silent = none })
 
   keeps_counted : Keeps s [] (record s { answered = s.answered + 1 })
   keeps_counted = keeps_all s _ refl refl refl (λ e. e)
@@ -100,11 +96,11 @@ module _ (M : Meaning) (s : State) where
 
   pub quiet_event : (e : Event) → IsQuiet e → Quiet s (answer_to M s e)
   quiet_event (event.Take frame) h = absurd h
-  quiet_event (event.Answer frame) h = quiet_served (event.Answer frame) _ _ refl (quiet_answer frame)
+  quiet_event (event.Answer frame) h = quiet_answer frame
   quiet_event (event.Complete k i verdict) h = quiet_complete k i verdict
-  quiet_event (event.ClientEnd rest) h = quiet_served (event.ClientEnd rest) _ _ refl (quiet_noted _ (keeps_client_end rest))
-  quiet_event (event.BrokerEnd rest) h = quiet_served (event.BrokerEnd rest) _ _ refl (quiet_noted _ (keeps_dead (broker_ended rest (waiting s)) s))
-  quiet_event (event.Fault x) h = quiet_served (event.Fault x) _ _ refl (quiet_noted _ (keeps_fault x))
+  quiet_event (event.ClientEnd rest) h = quiet_noted _ (keeps_client_end rest)
+  quiet_event (event.BrokerEnd rest) h = quiet_noted _ (keeps_dead (broker_ended rest (waiting s)) s)
+  quiet_event (event.Fault x) h = quiet_noted _ (keeps_fault x)
   quiet_event event.Send h = quiet_either s (is_some s.death || is_some s.halt) _ _ (quiet_same _ refl) (quiet_sent (slice_get s.sends s.taken))
   quiet_event event.Emit h = absurd h
   quiet_event event.Pick h = quiet_either s (is_still s) _ _ (quiet_same _ refl) (quiet_picked (first_hold M s.cut s.picked 0 s.requests))

@@ -10,11 +10,11 @@ use Rattle.conn_rules.specs.declared.event.Reply.TheVariants as reply
 use Rattle.conn_rules.specs.declared.event.TakeFault.TheVariants as take_fault
 use Rattle.conn_rules.specs.declared.event.AnswerFault.TheVariants as answer_fault
 use Rattle.conn_rules.specs.declared.event.CompleteFault.TheVariants as complete_fault
-use Rattle.conn_rules.specs.Meaning.{Meaning, ServesLate}
-use Rattle.conn_rules.specs.State.{State, opening, halted, is_ending, is_still, in_flight, held}
+use Rattle.conn_rules.specs.Meaning.{Meaning}
+use Rattle.conn_rules.specs.State.{State, opening, halted, is_ending, in_flight, held}
 use Rattle.conn_rules.specs.Steps.{joined, response_in, silent_passed, cause_at, over_or, respond_or, told_again, emit_step, answer_to, memory_answer, May}
 use Rattle.conn_rules.specs.History.{Entry, Runs, IsHistory, is_taken, frame_taken, frames_taken, AreRequests}
-use Rattle.conn_rules.proofs.Keeps.{Keeps, keeps_joined, keeps_halted, keeps_settling, some_first, ends_halt}
+use Rattle.conn_rules.proofs.Keeps.{Keeps, keeps_joined, keeps_halted, keeps_settling}
 use Rattle.conn_rules.proofs.Quiet.{IsQuiet, quiet_event}
 
 -- where no request joins
@@ -41,11 +41,7 @@ or_true : (b : Bool) → (b || true) ≡ true
 or_true true = refl
 or_true false = refl
 
-or_serves : (still serves : Bool) → serves ≡ true → (still || serves) ≡ true
-or_serves true serves h = refl
-or_serves false serves h = h
-
-module _ (M : Meaning) (late : ServesLate M) (s : State) (frames : List (List ℕ)) (h : AreRequests s frames) where
+module _ (M : Meaning) (s : State) (frames : List (List ℕ)) (h : AreRequests s frames) where
   -- a frame is taken where nothing ends, so all frames so far are requests
   all_requests : is_ending s ≡ false → frames ≡ map (λ r. r.frame) s.requests
   all_requests runs =
@@ -80,16 +76,13 @@ module _ (M : Meaning) (late : ServesLate M) (s : State) (frames : List (List �
   abbrev After : List ℕ → Reply × State → Type 0
   After frame answer = AreRequests answer.1 (frames ++ frame_taken (event.Take frame) answer.0)
 
-  taken_case : (frame : List ℕ) (ending served room : Bool) → is_ending s ≡ ending → (ending ≡ true → served ≡ true) → After frame (if served then (if ending then (reply.Take (Err (take_fault.Ending frame)), s) else if room then (reply.Take (Ok tt), joined (M.refusal frame) frame s) else (reply.Take (Err (take_fault.Full (in_flight s) (held s) frame)), s)) else (reply.Take (Ok tt), halted end.NotBuilt s))
-  taken_case frame true true room is serves = rw (append-nil frames) h
-  taken_case frame true false room is serves = absurd (let e : false ≡ true = serves refl in cc)
-  taken_case frame false true true is serves = taken_refusal (M.refusal frame) frame is
-  taken_case frame false true false is serves = rw (append-nil frames) h
-  taken_case frame false false room is serves =
-      taken_last frame (halted end.NotBuilt s) is refl (rw (some_first s.halt end.NotBuilt) (ends_halt (is_some s.cut) (is_some s.death) (is_some s.over)))
+  taken_case : (frame : List ℕ) (ending room : Bool) → is_ending s ≡ ending → After frame (if ending then (reply.Take (Err (take_fault.Ending frame)), s) else if room then (reply.Take (Ok tt), joined (M.refusal frame) frame s) else (reply.Take (Err (take_fault.Full (in_flight s) (held s) frame)), s))
+  taken_case frame true room is = rw (append-nil frames) h
+  taken_case frame false true is = taken_refusal (M.refusal frame) frame is
+  taken_case frame false false is = rw (append-nil frames) h
 
   after_take : (frame : List ℕ) → After frame (answer_to M s (event.Take frame))
-  after_take frame = taken_case frame (is_ending s) _ _ refl (λ ending. or_serves (is_still s) _ (late s frame ending))
+  after_take frame = taken_case frame (is_ending s) _ refl
 
 -- an emit step takes nothing, and no request leaves
 record Same (s t : State) : Type 0 where
@@ -148,12 +141,12 @@ none_taken event.Emit r h = refl
 none_taken event.Pick r h = refl
 none_taken event.Look r h = refl
 
-module _ (M : Meaning) (late : ServesLate M) where
+module _ (M : Meaning) where
   after_quiet : (s : State) (frames : List (List ℕ)) (h : AreRequests s frames) (e : Event) → IsQuiet e → AreRequests (answer_to M s e).1 frames
   after_quiet s frames h e is = carried s (answer_to M s e).1 frames (quiet_event M s e is).keeps h
 
   after_answer : (s : State) (frames : List (List ℕ)) (h : AreRequests s frames) (e : Event) → AreRequests (answer_to M s e).1 (frames ++ frame_taken e (answer_to M s e).0)
-  after_answer s frames h (event.Take frame) = after_take M late s frames h frame
+  after_answer s frames h (event.Take frame) = after_take M s frames h frame
   after_answer s frames h (event.Answer frame) = rw append-nil (after_quiet s frames h (event.Answer frame) tt)
   after_answer s frames h (event.Complete k i verdict) = rw append-nil (after_quiet s frames h (event.Complete k i verdict) tt)
   after_answer s frames h (event.ClientEnd rest) = rw append-nil (after_quiet s frames h (event.ClientEnd rest) tt)
@@ -178,5 +171,5 @@ module _ (M : Meaning) (late : ServesLate M) where
   requests_from s t frames (entry ∷ hs) h run =
       rw (← append_assoc) (requests_from run.0 t (frames ++ frame_taken entry.event entry.reply) hs (after_event s run.0 frames entry.event entry.reply h run.1) run.2)
 
-pub requests : (M : Meaning) (hs : List Entry) (s : State) → ServesLate M → IsHistory M hs s → AreRequests s (frames_taken hs)
-requests M hs s late run = requests_from M late opening s [] hs (record { other = []; frames = refl; at_most_one = omega arith; ends = λ some. absurd (omega arith) }) run
+pub requests : (M : Meaning) (hs : List Entry) (s : State) → IsHistory M hs s → AreRequests s (frames_taken hs)
+requests M hs s run = requests_from M opening s [] hs (record { other = []; frames = refl; at_most_one = omega arith; ends = λ some. absurd (omega arith) }) run

@@ -1,9 +1,7 @@
 -- What a request means. The machine of a connection is the same for every meaning, and so is its law of order.
-use Rattle.std.specs.Prelude.{◌≡◌, ℕ, Bool, true, List, [], ◌++◌, Option, IsTrue}
+use Rattle.std.specs.Prelude.{◌≡◌, ℕ, Bool, true, List, [], ◌++◌, Option}
 use Rattle.kp_edge.specs.declared.end.End.{End}
-use Rattle.conn_rules.specs.declared.event.Event.{Event}
-use Rattle.conn_rules.specs.declared.event.Event.TheVariants as event
-use Rattle.conn_rules.specs.State.{Outside, State, is_ending}
+use Rattle.conn_rules.specs.State.{Outside}
 
 -- What a request waits for.
 pub data Ask : Type 0 where
@@ -31,15 +29,9 @@ pub record Meaning : Type 0 where
   pub status : (frame : List ℕ) (given : List Outside) → Status
   -- why the body of a response can't be read, by what stands before the correlation id of its request
   pub unreadable : (before body : List ℕ) → Option (ℕ → End)
-  -- whether the program does what the rules say of this event; one that it doesn't yet stops the connection
-  pub serves : State → Event → Bool
 
 -- What the law of order asks of a meaning: a response stays as it is, whatever more is given, and a silent
 -- request has none.
 pub record Lasting (M : Meaning) : Type 0 where
   pub stays : (frame : List ℕ) (given more : List Outside) (response : List ℕ) → M.status frame given ≡ Done response → M.status frame (given ++ more) ≡ Done response
   pub silence : (frame : List ℕ) (given : List Outside) (response : List ℕ) → M.silent frame ≡ true → M.status frame given ≡ Done response → response ≡ []
-
--- What the law of requests asks of a meaning: a frame that comes too late is refused as the rules say.
-abbrev pub ServesLate : Meaning → Type 0
-ServesLate M = (s : State) (frame : List ℕ) → IsTrue (is_ending s) → IsTrue (M.serves s (event.Take frame))

@@ -177,18 +177,14 @@ told_again (Some why) s later = (reply.Emit (emit.Over why), s)
 abbrev pub emit_step : Meaning → State → Reply × State
 emit_step M s = told_again s.over s (over_or s.halt s (emit_next M (silent_passed M s)))
 
--- an event that the program doesn't serve yet is taken, and stops the connection
-abbrev pub if_served : Meaning → State → Event → Reply → Reply × State → Reply × State
-if_served M s e taken step = if is_still s || M.serves s e then step else (taken, halted end.NotBuilt s)
-
 -- what is answered to an event, and the state before it settles
 abbrev pub answer_to : Meaning → State → Event → Reply × State
-answer_to M s (event.Take frame) = if_served M s (event.Take frame) (reply.Take (Ok tt)) (take_step M s frame)
-answer_to M s (event.Answer frame) = if_served M s (event.Answer frame) (reply.Answer (Ok tt)) (answer_step M s frame)
+answer_to M s (event.Take frame) = take_step M s frame
+answer_to M s (event.Answer frame) = answer_step M s frame
 answer_to M s (event.Complete k i verdict) = complete_step M s k i verdict
-answer_to M s (event.ClientEnd rest) = if_served M s (event.ClientEnd rest) reply.Noted (noted s (client_end rest s))
-answer_to M s (event.BrokerEnd rest) = if_served M s (event.BrokerEnd rest) reply.Noted (noted s (dead (broker_ended rest (waiting s)) s))
-answer_to M s (event.Fault x) = if_served M s (event.Fault x) reply.Noted (noted s (faulted M s x))
+answer_to M s (event.ClientEnd rest) = noted s (client_end rest s)
+answer_to M s (event.BrokerEnd rest) = noted s (dead (broker_ended rest (waiting s)) s)
+answer_to M s (event.Fault x) = noted s (faulted M s x)
 answer_to M s event.Send = send_step s
 answer_to M s event.Emit = emit_step M s
 answer_to M s event.Pick = pick_step M s

@@ -1,6 +1,6 @@
 ghost use Rattle.std.specs.Prelude.{◌≡◌, ◌∷◌, ◌++◌, List, All};
 ghost use Rattle.kp_edge.specs.declared.end.End.{End};
-ghost use Rattle.conn_rules.specs.Meaning.{Meaning, Lasting, ServesLate};
+ghost use Rattle.conn_rules.specs.Meaning.{Meaning, Lasting};
 ghost use Rattle.conn_rules.specs.State.{State};
 ghost use Rattle.conn_rules.specs.History.{Entry, IsHistory, AreRequests, IsTold, IsToldIfEmit, out, replies, frames_taken};
 
@@ -12,7 +12,7 @@ pub fn order_law()
 
 /// The requests of a connection are the frames that were taken from its client, in order.
 pub fn requests_law()
-    ensures { (M : Meaning) (hs : List Entry) (s : State) → ServesLate M → IsHistory M hs s → AreRequests s (frames_taken hs) }
+    ensures { (M : Meaning) (hs : List Entry) (s : State) → IsHistory M hs s → AreRequests s (frames_taken hs) }
 {}
 
 /// Once the client's writer was told an end, it is told the same ever after.

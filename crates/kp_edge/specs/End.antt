@@ -1,7 +1,7 @@
 use Rattle.std.specs.Prelude.{ℕ, List, ◌++◌, codes}
 use Rattle.std.specs.Fmt.{decimal, signed_decimal}
 use Rattle.kp_edge.specs.declared.end.End.{End}
-use Rattle.kp_edge.specs.declared.end.End.TheVariants.{Ended, ClientTorn, BadSize, BadHead, UnsupportedApi, BadBody, TooManyEntries, ClientReadFault, FilterShut, NodeOutOfRange, NameTooLong, GrownPast, AskBudget, BrokerBadBody, AuthorityFault, BrokerEnd, BrokerTorn, BrokerBadSize, Unasked, Mismatch, BrokerReadFault, BrokerWriteFault, ClientWriteFault, ThreadRefused, NoMemory, NotBuilt}
+use Rattle.kp_edge.specs.declared.end.End.TheVariants.{Ended, ClientTorn, BadSize, BadHead, UnsupportedApi, BadBody, TooManyEntries, ClientReadFault, FilterShut, NodeOutOfRange, NameTooLong, GrownPast, AskBudget, BrokerBadBody, AuthorityFault, BrokerEnd, BrokerTorn, BrokerBadSize, Unasked, Mismatch, BrokerReadFault, BrokerWriteFault, ClientWriteFault, ThreadRefused, NoMemory}
 
 -- how an end is written: its words, and each number in decimal behind its name
 abbrev pub end_text : End → List ℕ
@@ -30,4 +30,3 @@ end_text BrokerWriteFault = codes "broker-write-fault"
 end_text ClientWriteFault = codes "client-write-fault"
 end_text ThreadRefused = codes "thread-refused"
 end_text NoMemory = codes "no-memory"
-end_text NotBuilt = codes "not-built"

@@ -80,7 +80,7 @@ pub enum End {
         request: u64,
     },
 
-    /// The broker's stream ended at a frame's end, with this many requests without a response.
+    /// The broker's stream ended at a frame's end, while this many messages that were sent have no response.
     BrokerEnd {
         waiting: u64,
     },
@@ -113,8 +113,6 @@ pub enum End {
     ThreadRefused,
     /// Memory ran out.
     NoMemory,
-    /// The request wants a part of the proxy that isn't built yet.
-    NotBuilt,
 }
 
 impl fmt::Display for End {
@@ -193,7 +191,6 @@ impl fmt::Display for End {
             End::ClientWriteFault => write!(f, "client-write-fault"),
             End::ThreadRefused => write!(f, "thread-refused"),
             End::NoMemory => write!(f, "no-memory"),
-            End::NotBuilt => write!(f, "not-built"),
         }
     }
 }

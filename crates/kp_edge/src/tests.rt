@@ -98,7 +98,6 @@ fn ends_are_written_as_the_documents_say(rt: HostRuntime) {
         (End::ClientWriteFault, "client-write-fault"),
         (End::ThreadRefused, "thread-refused"),
         (End::NoMemory, "no-memory"),
-        (End::NotBuilt, "not-built"),
     ];
     for (end, text) in table {
         let written = end.to_string(rt.alloc()).expect(&rt, "memory");

@@ -9,7 +9,7 @@ use Rattle.proxy_main.specs.declared.stop.Stop.{Stop}
 use Rattle.proxy_main.specs.declared.stop.Stop.TheVariants as stop
 use Rattle.proxy_main.specs.declared.status.Status.{Status}
 use Rattle.proxy_main.specs.declared.status.Status.TheVariants as status
-use Rattle.proxy_main.proofs.Answering.{append_nil}
+use Rattle.proxy_main.proofs.Lists.{append_nil}
 use Rattle.proxy_main.proofs.Going.{appends_then}
 
 -- all that waited, and more behind it, was written

@@ -14,7 +14,7 @@ use Rattle.proxy_main.specs.declared.stop.LineStop.{LineStop}
 use Rattle.proxy_main.specs.declared.stop.LineStop.TheVariants as line_stop
 use Rattle.proxy_main.specs.declared.stop.Stop.{Stop}
 use Rattle.proxy_main.specs.declared.stop.Stop.TheVariants as stop
-use Rattle.proxy_main.proofs.Answering.{append_nil}
+use Rattle.proxy_main.proofs.Lists.{append_nil}
 use Rattle.proxy_main.proofs.LineCuts.{begins, begins_longer}
 
 reading_alike : (old new : Replay) (read text : List ℕ) → new.station ≡ old.station → new.partial.items ≡ old.partial.items → new.lines ≡ old.lines → Reading old read text → Reading new read text

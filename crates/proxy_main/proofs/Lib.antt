@@ -1,5 +1,6 @@
-pub mod Machine
+pub mod Lists
 pub mod Happenings
+pub mod Machine
 pub mod Outputs
 pub mod Pieces
 pub mod Answering

@@ -11,7 +11,7 @@ use Rattle.memchr.specs.Find.{IsFirstByte, is_byte}
 use Rattle.std.proofs.Math.Seq.{take-append-add}
 use Rattle.proxy_main.specs.Scripts.{HasNoBreak, Lines, with_last, Says, IsBad, line_limit}
 use Rattle.proxy_main.specs.Run.{Begins}
-use Rattle.proxy_main.proofs.Answering.{append_nil}
+use Rattle.proxy_main.proofs.Lists.{append_nil}
 
 abbrev pub joined : List (List ℕ) → List ℕ
 joined lines = flat_map (λ l. l ++ 10 ∷ []) lines

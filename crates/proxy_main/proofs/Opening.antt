@@ -7,7 +7,7 @@ use Rattle.proxy_main.specs.Replayed.{Answered, Front}
 use Rattle.proxy_main.specs.Run.{Reading}
 use Rattle.proxy_main.specs.Runs.{Running}
 use Rattle.proxy_main.specs.declared.replay.Replay.{Replay}
-use Rattle.proxy_main.proofs.Answering.{append_nil}
+use Rattle.proxy_main.proofs.Lists.{append_nil}
 use Rattle.proxy_main.proofs.Scripting.{first_lines}
 
 pub answered_none : Answered [] []

@@ -4,7 +4,7 @@ use Rattle.proxy_main.specs.Stationed.{Stationed}
 use Rattle.proxy_main.specs.Scripts.{HasNoBreak, Lines, IsBad, line_limit}
 use Rattle.proxy_main.specs.Run.{Begins, Standing, Reading, Answers, Advances, Ends, EndsBadly, Stumbles, Finishes, FinishesBadly}
 use Rattle.proxy_main.specs.declared.replay.Replay.{Replay}
-use Rattle.proxy_main.proofs.Answering.{append_nil}
+use Rattle.proxy_main.proofs.Lists.{append_nil}
 use Rattle.proxy_main.proofs.LineCuts.{lines_longer, lines_ended, begins, begins_longer, kept_whole, bad_kept, nothing_kept, clipped_again, length_clipped, with_last_is}
 
 -- a replay of which only what is kept of a line differs

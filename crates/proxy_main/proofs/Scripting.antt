@@ -7,7 +7,7 @@ use Rattle.std.proofs.lemmas.Bool.{eqb-true, le-ltb, lt-ltb}
 use Rattle.std.proofs.Math.Seq.{take-append-add}
 use Rattle.proxy_main.specs.Scripts.{HasNoBreak, Lines, Script, with_last, script_limit}
 use Rattle.proxy_main.specs.Run.{Begins}
-use Rattle.proxy_main.proofs.Answering.{append_nil}
+use Rattle.proxy_main.proofs.Lists.{append_nil}
 use Rattle.proxy_main.proofs.LineCuts.{joined, begins_longer}
 
 -- each text is some lines and a last part

@@ -1,10 +1,9 @@
 -- What `replay` makes of a script: the text that it writes, by its status.
 use Rattle.std.specs.Prelude.{◌≡◌, ℕ, ◌+◌, ◌<◌, ◌≤◌, List, ◌∷◌, ◌++◌, flat_map, length, Option, ◌⊎◌}
 use Rattle.conn_rules.specs.History.{Entry, IsHistory, out, replies}
-use Rattle.conn_core.specs.Heartbeats.{heartbeats}
 use Rattle.transcript.specs.declared.line.Line.{Line}
 use Rattle.transcript.specs.declared.answer.Answer.{Answer}
-use Rattle.proxy_main.specs.Played.{Play, opening_play, Plays, printed, shown_to_client}
+use Rattle.proxy_main.specs.Played.{Play, opening_play, served, Plays, printed, shown_to_client}
 use Rattle.proxy_main.specs.Scripts.{Script, Say, IsBad, script_limit, bad_line_text, too_long_text}
 use Rattle.proxy_main.specs.Output.{Appends, AppendsFront}
 use Rattle.proxy_main.specs.Words.{usage}
@@ -21,9 +20,9 @@ pub record Answered (lines : List (List ℕ)) (text : List ℕ) : Type 0 where
   pub read : Say lines says
   pub plays : Plays opening_play says answers history last
   pub text_is : text ≡ printed answers
-  pub is_history : IsHistory heartbeats history last.state
+  pub is_history : IsHistory served history last.state
   pub sent : flat_map shown_to_client answers ≡ out history
-  pub in_order : out history ≡ replies heartbeats last.state
+  pub in_order : out history ≡ replies served last.state
 
 -- the script as a whole was answered
 pub record Whole (script text : List ℕ) : Type 0 where

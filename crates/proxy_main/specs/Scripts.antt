@@ -1,8 +1,7 @@
 -- A script as text: its lines, and its limits.
-use Rattle.std.specs.Prelude.{◌≡◌, ℕ, ◌≤◌, nat_lt, ◌==◌, Bool, true, false, if◌then◌else◌, List, [], ◌∷◌, ◌++◌, flat_map, length, take, All, codes, decimal}
+use Rattle.std.specs.Prelude.{◌≡◌, ℕ, ◌≤◌, nat_lt, ◌==◌, false, if◌then◌else◌, List, [], ◌∷◌, ◌++◌, flat_map, length, take, All, codes, decimal}
 use Rattle.std.specs.List.{list_any}
 use Rattle.transcript.specs.declared.line.Line.{Line}
-use Rattle.transcript.specs.declared.line.Line.TheVariants as line
 use Rattle.transcript.specs.Lines.{Spells}
 
 -- the most bytes of a script, and of a line without its byte 10
@@ -33,26 +32,9 @@ pub record Script (text : List ℕ) (lines : List (List ℕ)) : Type 0 where
   pub cut : Lines (take script_limit text) ended last
   pub lines_are : lines ≡ (if nat_lt script_limit (length text) then ended else with_last ended last)
 
--- the lines that are served today
-abbrev pub is_served : Line → Bool
-is_served (line.Client piece) = true
-is_served (line.Broker piece) = true
-is_served line.ClientEnd = true
-is_served line.Send = true
-is_served line.Emit = true
-is_served line.BrokerEnd = false
-is_served line.Pick = false
-is_served (line.Done k i verdict) = false
-is_served line.FaultClientRead = false
-is_served line.FaultClientWrite = false
-is_served line.FaultBrokerRead = false
-is_served line.FaultBrokerWrite = false
-is_served (line.FaultAuthority k) = false
-
 -- what a line says
 pub record Says (text : List ℕ) (l : Line) : Type 0 where
   pub within : length text ≤ line_limit
-  pub served : is_served l ≡ true
   pub spelled : Spells l text
 
 -- it says nothing: it is too long, or outside the grammar

@@ -29,16 +29,19 @@ pub fn run_command<I: Source, O: Sink, F: Files, L>(
     _files: &mut F,
     _steps: &mut Steps<L>,
 ) -> Status
-    // What is written, by the status, where input and output tell their bytes.
-    ensures replay { IsReplay (map string_bytes words.now) → (script taken : List ℕ) → I.left input.old ≡ Some script → O.taken out.old ≡ Some taken
-        → (written : List ℕ) × (O.taken out.new ≡ Some (taken ++ written)) × Replays script written result }
+    // The status and what is written have their cause in the script, where the input tells it. The output took
+    // that text, where it tells what it takes.
+    ensures replay { IsReplay (map string_bytes words.now) → (script : List ℕ) → I.left input.old ≡ Some script
+        → (written : List ℕ) × Appends (O.taken out.old) written (O.taken out.new) × Replays script written result }
     ensures statuses { IsReplay (map string_bytes words.now) → IsStatusOfReplay result }
 
     // The whole script was read.
     ensures read { IsReplay (map string_bytes words.now) → result ≡ Status.Done → (script : List ℕ) → I.left input.old ≡ Some script → I.left input.new ≡ Some [] }
 
-    // Other words are faulty.
+    // Other words are faulty, and nothing is read for them.
     ensures words { ¬ IsReplay (map string_bytes words.now) → RefusesWords result (O.taken out.old) (O.taken out.new) }
+    ensures unread { ¬ IsReplay (map string_bytes words.now) → input.new ≡ input.old }
+    ensures files { _files.new ≡ _files.old }
 
     // A fault has its cause in this call.
     ensures input_fault { result ≡ Status.InputFault → Rose (I.faults input.old) (I.faults input.new) }
@@ -71,8 +74,8 @@ fn refuse_words<O: Sink>(out: &mut O) -> Status
 }
 
 fn replay<I: Source, O: Sink>(alloc: Global, input: &mut I, out: &mut O) -> Status
-    ensures text { (script taken : List ℕ) → I.left input.old ≡ Some script → O.taken out.old ≡ Some taken
-        → (written : List ℕ) × (O.taken out.new ≡ Some (taken ++ written)) × Replays script written result }
+    ensures text { (script : List ℕ) → I.left input.old ≡ Some script
+        → (written : List ℕ) × Appends (O.taken out.old) written (O.taken out.new) × Replays script written result }
     ensures statuses { IsStatusOfReplay result }
     ensures read { result ≡ Status.Done → (script : List ℕ) → I.left input.old ≡ Some script → I.left input.new ≡ Some [] }
     ensures input_fault { result ≡ Status.InputFault → Rose (I.faults input.old) (I.faults input.new) }

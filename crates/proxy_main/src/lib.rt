@@ -14,6 +14,7 @@ mod lines;
 mod output;
 mod replay;
 mod run;
+mod side;
 mod station;
 mod status;
 mod stop;

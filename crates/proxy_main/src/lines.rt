@@ -1,7 +1,7 @@
 // One line of a script: what it says, and its answer as text.
 ghost use Rattle.std.specs.Prelude.{◌≡◌, ◌++◌, [], ◌∷◌, length, take, true, false, IfOk, OnOk, OnErr, IsErrOf};
 ghost use Rattle.transcript.specs.Answers.{answer_text};
-ghost use Rattle.proxy_main.specs.Scripts.{is_served, Says, IsBad};
+ghost use Rattle.proxy_main.specs.Scripts.{Says, IsBad};
 
 use crate::stop::LineStop;
 use kp_edge::NoMemory;
@@ -21,21 +21,9 @@ pub(crate) fn read(alloc: Global, text: &[u8]) -> Result<Line, LineStop>
         return Err(LineStop::BadLine);
     }
     match read_line(alloc, text) {
-        Ok(line) => served(line),
+        Ok(line) => Ok(line),
         Err(LineFault::BadLine) => Err(LineStop::BadLine),
         Err(LineFault::NoMemory) => Err(LineStop::NoMemory),
-    }
-}
-
-// The line, if it is one that is served today.
-fn served(line: Line) -> Result<Line, LineStop>
-    ensures ok { IfOk result (λ same. (same ≡ line) × (is_served line ≡ true)) }
-    ensures bad { IsErrOf result LineStop.BadLine → is_served line ≡ false }
-    ensures only { OnErr result (result ≡ Err LineStop.BadLine) }
-{
-    match line {
-        Line::Client(_) | Line::Broker(_) | Line::ClientEnd | Line::Send | Line::Emit => Ok(line),
-        _ => Err(LineStop::BadLine),
     }
 }
 

@@ -4,7 +4,7 @@ ghost use Rattle.proxy_main.specs.Scripts.{line_limit};
 use crate::lines::{LINE_LIMIT, put_answer, read};
 use crate::station::Station;
 use crate::stop::LineStop;
-use conn_core::heartbeats_law;
+use conn_core::heads_law;
 use conn_rules::order_law;
 use kp_edge::NoMemory;
 use memchr::memchr;
@@ -103,7 +103,7 @@ impl Replay {
             return Err(LineStop::NoMemory);
         };
         order_law();
-        heartbeats_law();
+        heads_law();
         let answer = self.station.perform(said)?;
         put_answer(&mut self.answers, &answer)?;
         self.lines = lines;

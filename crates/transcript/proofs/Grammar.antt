@@ -1,6 +1,6 @@
 -- The texts that are read are those that spell a line, and each spells the line that is read.
 use Rattle.std.proofs.Common.{◌≡◌, ◌≢◌, ℕ, ◌+◌, ◌*◌, ◌<◌, ◌≤◌, ◌^◌, inl, inr, Bool, true, false, cond, List, [], ◌∷◌, ◌++◌, length, take, drop, get_or, refl, sym, ◌∙◌, ap, subst, arith, Option, Some, None, Result, Ok, Err, codes}
-use Rattle.std.specs.Prelude.{IfOk, IsErrOf, position, not, nat_lt, ◌==◌}
+use Rattle.std.specs.Prelude.{IfOk, IsErrOf, MatchResult, position, not, nat_lt, ◌==◌}
 use Rattle.std.specs.Option.{option_map}
 use Rattle.std.specs.Result.{result_ok}
 use Rattle.std.specs.List.{prefix_len}
@@ -258,6 +258,12 @@ line_again (FaultAuthority request) text h = rw h.1 (ap (option_map FaultAuthori
 pub read_found : (result : Result Line LineFault) (text : List ℕ) → Reads result (line_of text) → IfOk result (λ line. Spells line text)
 read_found (Ok line) text read = line_is text line read
 read_found (Err fault) text read = tt
+
+pub read_spelled : (result : Result Line LineFault) (text : List ℕ) → Reads result (line_of text) → (spelled : Line) → Spells spelled text
+    → MatchResult result (λ found. found ≡ spelled) (λ fault. fault ≡ NoMemory)
+read_spelled (Ok line) text read spelled spells = let again = line_again spelled text spells in cc
+read_spelled (Err NoMemory) text read spelled spells = refl
+read_spelled (Err BadLine) text read spelled spells = cc (line_again spelled text spells)
 
 pub read_bad : (result : Result Line LineFault) (text : List ℕ) → Reads result (line_of text) → IsErrOf result BadLine → (other : Line) → Spells other text → ⊥
 read_bad (Ok line) text read bad other spells = cc

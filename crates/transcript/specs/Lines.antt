@@ -11,11 +11,11 @@ pub record SpellsNumber (limit n : ℕ) (text : List ℕ) : Type 0 where
   pub value : digits_value 10 text ≡ n
   pub below : n < limit
 
--- the most bytes of an authority's answer
+-- the most bytes of a verdict
 abbrev pub most_verdict : ℕ
 most_verdict = 8388608
 
--- the words behind `done`: the request, the question's index and the answer
+-- the words behind `done`: the request, the number of its ask and the verdict
 pub record SpellsDone (request index : ℕ) (verdict text : List ℕ) : Type 0 where
   pub first : List ℕ
   pub second : List ℕ

@@ -10,7 +10,7 @@ pub enum Answer {
     Full,
     /// That side has ended, or the connection takes no more.
     Closed,
-    /// No such question waits for an answer.
+    /// No such hold waits for a verdict.
     NotWaiting,
     /// A frame for the broker, its size in front.
     ToBroker(Bytes),
@@ -22,6 +22,6 @@ pub enum Answer {
     Later,
     /// The connection is over.
     Over(End),
-    /// Question `index` of a request for the authority.
+    /// The hold of a request by the number of its ask.
     Ticket { request: u64, index: u32, key: Blob },
 }

@@ -15,9 +15,9 @@ pub enum Line {
     Send,
     /// The next response for the client is taken.
     Emit,
-    /// The next question for the authority is taken.
+    /// The next hold is taken.
     Pick,
-    /// The authority's answer to question `index` of a request.
+    /// The verdict for ask number `index` of a request.
     Done {
         request: u64,
         index: u32,
@@ -31,7 +31,7 @@ pub enum Line {
     FaultBrokerRead,
     /// A write to the broker's sink fails.
     FaultBrokerWrite,
-    /// The authority fails at a question of a request.
+    /// The authority fails at a request's hold.
     FaultAuthority {
         request: u64,
     },

@@ -1,4 +1,4 @@
-ghost use Rattle.std.specs.Prelude.{◌≡◌, ◌==◌, ◌<◌, length, IfOk, IfSome, IsErrOf, option_map, position};
+ghost use Rattle.std.specs.Prelude.{◌≡◌, ◌==◌, ◌<◌, length, IfOk, IfSome, IsErrOf, MatchResult, option_map, position};
 ghost use Rattle.transcript.specs.Lines.{Spells};
 ghost use Rattle.transcript.specs.Reading.{Reads, bytes_of, word_of, bare_of, verdict_of, done_of, line_of};
 
@@ -7,12 +7,14 @@ use crate::numbers::{number_u32, number_u64};
 use kp_edge::Blob;
 use std::alloc::Global;
 
-/// The most bytes of an authority's answer.
+/// The most bytes of a verdict.
 const MOST_VERDICT: usize = 8_388_608;
 
 /// The line that a text spells. The text has no line's end behind it.
 pub fn read_line(alloc: Global, line: &[u8]) -> Result<Line, LineFault>
     ensures read { IfOk result (λ found. Spells found line.now) }
+    ensures spelled_is_read { (spelled : Line) → Spells spelled line.now
+        → MatchResult result (λ found. found ≡ spelled) (λ fault. fault ≡ LineFault.NoMemory) }
     ensures bad { IsErrOf result LineFault.BadLine → (other : Line) → ¬ (Spells other line.now) }
 {
     read_text(alloc, line)
@@ -113,7 +115,7 @@ fn read_verdict(alloc: Global, word: &[u8]) -> Result<Blob, LineFault>
     read_bytes(alloc, word)
 }
 
-// The words behind `done`: the request, the question's index and the answer.
+// The words behind `done`: the request, the number of its ask and the verdict.
 #[tactic(auto, unfolding(crate::specs::Reading::done_of))]
 fn read_done(alloc: Global, words: &[u8]) -> Result<Line, LineFault>
     ensures { Reads result (done_of words.now) }

@@ -7,14 +7,14 @@ use Rattle.proxy_main.proofs.Rising.{rose_later, rose_before}
 use Rattle.proxy_main.proofs.command.replay.Goals as goal
 
 pub returns-in-Err-clause-text : goal.returns-in-Err-clause-text
-returns-in-Err-clause-text g c script taken is is_taken = ([], appends_none (g.O.Sink.taken c.args.out.now) taken is_taken, front_of_none script)
+returns-in-Err-clause-text g c script is = ([], appends_none (g.O.Sink.taken c.args.out.now), front_of_none script)
 
 pub returns-clause-text : goal.returns-clause-text
-returns-clause-text g c script taken is is_taken =
+returns-clause-text g c script is =
     let first = g.O.Sink.taken c.args.out.now in
     let ends = c.read_all-read.ensures.read script is (opened c.new-replay.result first c.new-replay.ensures.start c.new-replay.ensures.pending) in
     let done = c.conclude.ensures.concludes script (g.I.Source.left c.read_all-read.new.input) first ends in
-    (done.written, done.appends taken is_taken, done.replays)
+    (done.written, done.appends, done.replays)
 
 pub returns-clause-read : goal.returns-clause-read
 returns-clause-read g c done script is =

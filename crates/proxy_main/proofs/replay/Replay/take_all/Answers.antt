@@ -1,8 +1,10 @@
-use Rattle.std.proofs.Common.{◌≡◌, ◌++◌, ◌∙◌, sym, ap, subst, take, drop, arith, append_assoc, Err}
-use Rattle.std.proofs.lemmas.List.{take-append-drop}
-use Rattle.proxy_main.specs.Runs.{TakeStops}
+use Rattle.std.proofs.Common.{[], ◌≡◌, ◌++◌, ◌∙◌, sym, ap, subst, take, drop, arith, append_assoc, Err}
+use Rattle.std.proofs.lemmas.List.{take-append-drop, nil_from_length}
+use Rattle.std.proofs.lemmas.Bool.{eqb-true}
+use Rattle.proxy_main.specs.Runs.{TakeStops, Running}
 use Rattle.proxy_main.specs.Stops.{stop_of}
 use Rattle.proxy_main.specs.declared.stop.Stop.TheVariants as stop
+use Rattle.proxy_main.proofs.Lists.{append_nil}
 use Rattle.proxy_main.proofs.Going.{takes_more, stops_at, stops_writing}
 use Rattle.proxy_main.proofs.replay.Replay.take_all.Goals as goal
 
@@ -34,3 +36,9 @@ returns-in-Err-flush_many-clause-err g c =
     let whole : inv.front ++ (take n rest ++ drop n rest) ≡ c.args.bytes.now = ap (λ r. inv.front ++ r) (take-append-drop n rest) ∙ sym inv.parts in
     subst (λ xs. TakeStops c.args.self.now (g.O.Sink.taken c.args.out.now) xs c.flush_many.new.self (g.O.Sink.taken c.flush_many.new.out) stop.Output) whole
     (stops_writing c.args.self.now c.loop-rest.self c.advance.new.self c.flush_many.new.self _ _ _ inv.front (take n rest) (drop n rest) inv.takes c.in-Ok.ensures.ok c.in-Err-flush_many.ensures.err)
+
+pub returns-clause-ok : goal.returns-clause-ok
+returns-clause-ok g c first read r =
+    let inv = c.loop-rest.invariant in
+    let none : c.loop-rest.rest.now ≡ [] = nil_from_length _ (eqb-true _ _ (sym c.is_empty.ensures ∙ c.loop-rest-test.false)) in
+    subst (λ xs. Running c.loop-rest.self first (g.O.Sink.taken c.loop-rest.out) (read ++ xs)) (sym (append_nil inv.front) ∙ ap (λ xs. inv.front ++ xs) (sym none) ∙ sym inv.parts) (inv.takes first read r)

@@ -1,31 +1,30 @@
-use Rattle.std.proofs.Common.{refl, ◌∙◌, true, ◌∷◌, [], subst, length}
+use Rattle.std.proofs.Common.{◌≡◌, ◌∙◌, Bool, true, false, not, [], ◌∷◌, length, refl, subst, if◌then◌else◌}
+use Rattle.std.specs.Prelude.{is_some}
 use Rattle.conn_rules.specs.declared.event.Event.TheVariants as event
-use Rattle.conn_rules.specs.declared.event.Reply.TheVariants as reply
-use Rattle.proxy_main.specs.Streams.{Happens}
-use Rattle.conn_core.specs.Heartbeats.{heartbeats}
-use Rattle.proxy_main.proofs.Machine.{happened, match_true, match_false}
+use Rattle.proxy_main.specs.Played.{client_kind}
+use Rattle.proxy_main.specs.Handed.{Tells}
+use Rattle.proxy_main.proofs.Happenings.{match_true, match_false}
+use Rattle.proxy_main.proofs.Pieces.{stream_ends}
 use Rattle.proxy_main.proofs.station.Station.client_end.Goals as goal
 
+flip : (a b : Bool) → a ≡ not b → b ≡ not a
+flip true true e = cc
+flip true false e = refl
+flip false true e = refl
+flip false false e = cc
+
 pub returns-then-self : goal.returns-then-self
-returns-then-self c p h =
-    ([], p, match_true _ _ _ (h.client_ended ∙ c.if-self.true) (record { answered = refl; nothing = refl; same = refl }), h)
+returns-then-self c p st = ([], p, match_true _ _ _ (st.client.fed.ended ∙ c.if-self.true) (record { answered = refl; nothing = refl; same = refl }), st)
 
 pub returns : goal.returns
-returns c p h =
-    let m = c.client_end.ensures p.state h.core in
-    let q = record p { client = record p.client { ended = true }; state = m.0 } in
-    let f = h.client in
-    let hs = record { actor = 0; event = event.ClientEnd (length c.args.self.now.client.rest); reply = reply.Noted } ∷ [] in (
-      hs,
-      q,
-      match_false _ _ _ (h.client_ended ∙ c.if-self.false) (record {
-        frames = f.frames;
-        tail = c.args.self.now.client.rest;
-        cut = f.cut;
-        events = subst (λ n. Happens heartbeats p.state (event.ClientEnd n ∷ []) (record { actor = 0; event = event.ClientEnd n; reply = reply.Noted } ∷ []) m.0) c.rest-rest.ensures (happened p.state _ reply.Noted m.0 refl m.1);
-        client = refl;
-        other = refl;
-        answered = refl;
-      }),
-      record { core = m.2; client = record { least = f.least; most = f.most; frames = f.frames; cut = f.cut; place = f.place; handed = f.handed }; broker = h.broker; client_ended = refl; client_told = h.client_told; broker_ended = h.broker_ended; broker_told = h.broker_told },
+returns c p st =
+    let old = c.args.self.now in
+    let told : c.is_none-self.result ≡ not (is_some old.kept) = flip _ _ c.is_none-self.ensures in
+    let tells = subst (λ b. Tells old.core (if b then event.ClientEnd (length old.client.framer.rest) ∷ [] else []) c.tell_client_end.new.core) told
+    (subst (λ n. Tells old.core (if c.is_none-self.result then event.ClientEnd n ∷ [] else []) c.tell_client_end.new.core) c.rest-rest.ensures c.tell_client_end.ensures.tells) in
+    let d = stream_ends client_kind old.core c.tell_client_end.new.core old.kept old.client (record old.client { ended = true; end_told = c.is_none-self.result }) p.client p.state c.each_stream_has_a_cut.ensures st.client st.core tells refl refl told refl in (
+      d.history,
+      record p { client = d.later; state = d.after },
+      match_false _ _ _ (st.client.fed.ended ∙ c.if-self.false) (record { ends = d.ends; other = refl; answered = refl }),
+      record { core = d.stands; client = d.framed; broker = st.broker },
     )

@@ -1,0 +1,69 @@
+-- What the head of a frame says, as the code reads it.
+use Rattle.std.proofs.Common.{◌≡◌, ◌∙◌, ap, ℕ, zero, suc, ◌+◌, ◌<◌, ◌≤◌, Bool, true, false, List, refl, sym, drop, length, Option, Some, None, ℤ, pos, negsuc, ◌⊎◌, inl, inr, FitsSigned, nat_lt, if◌then◌else◌, arith}
+use Rattle.std.specs.Int.{Width, w16, w32, from_be_bytes, cast_signed, cast_unsigned}
+use Rattle.std.specs.Ordering.{int_eq}
+use Rattle.std.proofs.lemmas.Nat.{from_be_bytes-to_be_bytes_2, from_be_bytes-to_be_bytes_4}
+use Rattle.std.proofs.lemmas.Int.{to_z-of_z}
+use Rattle.std.proofs.Math.Facts.{Fits-of_z}
+use Rattle.std.proofs.lemmas.Bool.{leb-true, leb-false, ltb-true, lt-ltb, false_from_ne_true}
+use Rattle.std.proofs.lemmas.Bool.Decides.{Decides-int_eq}
+use Rattle.wire_types.specs.Numbers.{int16, int32, int16_at}
+use Rattle.wire_types.specs.Reading.{need, IsBadLength}
+use Rattle.framing.specs.Heads.{Starts, HasBadClientId}
+use Rattle.conn_core.specs.Heads.{key_of, version_of, own_number, fits_string, has_client_id}
+
+int16_is : (z : ℤ) → FitsSigned w16 z → cast_signed w16 (from_be_bytes w16 (int16 z)) ≡ z
+int16_is z fits = ap (λ n. cast_signed w16 n) (from_be_bytes-to_be_bytes_2 (cast_unsigned w16 z) (Fits-of_z fits).fits) ∙ to_z-of_z w16 z fits
+
+int32_is : (z : ℤ) → FitsSigned w32 z → cast_signed w32 (from_be_bytes w32 (int32 z)) ≡ z
+int32_is z fits = ap (λ n. cast_signed w32 n) (from_be_bytes-to_be_bytes_4 (cast_unsigned w32 z) (Fits-of_z fits).fits) ∙ to_z-of_z w32 z fits
+
+-- the three numbers that a frame starts with
+module _ (frame : List ℕ) (key version id : ℤ) (rest : List ℕ) (s : Starts frame key version id rest) where
+  pub key_is : key_of frame ≡ key
+  key_is = ap (λ f. key_of f) s.spelled ∙ int16_is key s.key_fits
+
+  pub version_is : version_of frame ≡ version
+  version_is = ap (λ f. version_of f) s.spelled ∙ int16_is version s.version_fits
+
+  pub id_is : own_number frame ≡ id
+  id_is = ap (λ f. own_number f) s.spelled ∙ int32_is id s.id_fits
+
+-- numbers with the same bits are the same, and others differ
+pub same_number : (w : Width) (a b : ℤ) → FitsSigned w a → FitsSigned w b → cast_unsigned w a ≡ cast_unsigned w b → int_eq a b ≡ true
+same_number w a b fits fits' e = (Decides-int_eq a b).1 (sym (to_z-of_z w a fits) ∙ (ap (λ n. cast_signed w n) e ∙ to_z-of_z w b fits'))
+
+pub other_number : (w : Width) (a b : ℤ) → (cast_unsigned w a ≡ cast_unsigned w b → ⊥) → int_eq a b ≡ false
+other_number w a b differs = false_from_ne_true (int_eq a b) (λ e. differs (ap (λ z. cast_unsigned w z) ((Decides-int_eq a b).0 e)))
+
+-- a client id stands behind the first eight bytes, or what stands there is no STRING
+bad_by : (size : Option ℤ) (bytes : ℕ) → (size ≡ None → bytes < 2) → fits_string size bytes ≡ false → (bytes < need 2 size) ⊎ IsBadLength size
+bad_by None bytes short h = inl (short refl)
+bad_by (Some (pos size)) bytes short h = inl (leb-false (2 + size) bytes h)
+bad_by (Some (negsuc zero)) bytes short h = absurd (let never : true ≡ false = h in cc)
+bad_by (Some (negsuc (suc below))) bytes short h = inr tt
+
+fits_by : (size : Option ℤ) (bytes : ℕ) → (bytes < 2 → size ≡ None) → fits_string size bytes ≡ true → (bytes < need 2 size) ⊎ IsBadLength size → ⊥
+fits_by None bytes long h bad = absurd (let never : false ≡ true = h in cc)
+fits_by (Some (pos size)) bytes long h (inl short) = let enough : 2 + size ≤ bytes = leb-true (2 + size) bytes h in absurd (omega arith)
+fits_by (Some (pos size)) bytes long h (inr bad) = absurd bad
+fits_by (Some (negsuc zero)) bytes long h (inl short) = absurd (let never : Some (negsuc zero) ≡ None = long short in cc)
+fits_by (Some (negsuc zero)) bytes long h (inr bad) = absurd bad
+fits_by (Some (negsuc (suc below))) bytes long h bad = absurd (let never : false ≡ true = h in cc)
+
+size_by : (lt : Bool) (z : ℤ) → (if lt then None else Some z) ≡ None → lt ≡ true
+size_by true z h = refl
+size_by false z h = absurd (let never : Some z ≡ None = h in cc)
+
+no_size : (bytes : List ℕ) → int16_at bytes ≡ None → length bytes < 2
+no_size bytes h = ltb-true (length bytes) 2 (size_by (nat_lt (length bytes) 2) _ h)
+
+short_by : (lt : Bool) (z : ℤ) → lt ≡ true → (if lt then None else Some z) ≡ None
+short_by true z h = refl
+short_by false z h = absurd (let never : false ≡ true = h in cc)
+
+pub bad_from_none : (frame : List ℕ) → 8 ≤ length frame → has_client_id frame ≡ false → HasBadClientId frame
+bad_from_none frame long h = (long, bad_by (int16_at (drop 8 frame)) (length (drop 8 frame)) (no_size (drop 8 frame)) h)
+
+pub none_from_bad : (frame : List ℕ) → HasBadClientId frame → has_client_id frame ≡ false
+none_from_bad frame bad = false_from_ne_true (has_client_id frame) (λ h. fits_by (int16_at (drop 8 frame)) (length (drop 8 frame)) (λ short. short_by (nat_lt (length (drop 8 frame)) 2) _ (lt-ltb (length (drop 8 frame)) 2 short)) h bad.1)
