@@ -1,14 +1,17 @@
 -- What the head of a frame says, as the code reads it.
-use Rattle.std.proofs.Common.{◌≡◌, ◌∙◌, ap, ℕ, zero, suc, ◌+◌, ◌<◌, ◌≤◌, Bool, true, false, List, refl, sym, drop, length, Option, Some, None, ℤ, pos, negsuc, ◌⊎◌, inl, inr, FitsSigned, nat_lt, if◌then◌else◌, arith}
+use Rattle.std.proofs.Common.{◌≡◌, ◌∙◌, ap, ℕ, zero, suc, ◌+◌, ◌<◌, ◌≤◌, Bool, true, false, List, refl, sym, drop, length, Option, Some, None, ℤ, pos, negsuc, ◌⊎◌, inl, inr, FitsSigned, nat_lt, if◌then◌else◌, Result, Ok, Err, arith}
+use Rattle.std.specs.Prelude.{is_ok, IsErrOf, IfErr, ◌↔◌}
 use Rattle.std.specs.Int.{Width, w16, w32, from_be_bytes, cast_signed, cast_unsigned}
 use Rattle.std.specs.Ordering.{int_eq}
 use Rattle.std.proofs.lemmas.Nat.{from_be_bytes-to_be_bytes_2, from_be_bytes-to_be_bytes_4}
 use Rattle.std.proofs.lemmas.Int.{to_z-of_z}
 use Rattle.std.proofs.Math.Facts.{Fits-of_z}
-use Rattle.std.proofs.lemmas.Bool.{leb-true, leb-false, ltb-true, lt-ltb, false_from_ne_true}
+use Rattle.std.proofs.lemmas.Bool.{leb-true, leb-false, ltb-true, lt-ltb, true_from_ne_false, false_from_ne_true}
 use Rattle.std.proofs.lemmas.Bool.Decides.{Decides-int_eq}
 use Rattle.wire_types.specs.Numbers.{int16, int32, int16_at}
-use Rattle.wire_types.specs.Reading.{need, IsBadLength}
+use Rattle.wire_types.specs.Reading.{Reading, unread, need, IsBadLength, place_of}
+use Rattle.wire_types.specs.declared.read_fault.ReadFault.{ReadFault}
+use Rattle.wire_types.specs.declared.read_fault.ReadFault.TheVariants.{Short, BadLength}
 use Rattle.framing.specs.Heads.{Starts, HasBadClientId}
 use Rattle.conn_core.specs.Heads.{key_of, version_of, own_number, fits_string, has_client_id}
 
@@ -67,3 +70,15 @@ bad_from_none frame long h = (long, bad_by (int16_at (drop 8 frame)) (length (dr
 
 pub none_from_bad : (frame : List ℕ) → HasBadClientId frame → has_client_id frame ≡ false
 none_from_bad frame bad = false_from_ne_true (has_client_id frame) (λ h. fits_by (int16_at (drop 8 frame)) (length (drop 8 frame)) (λ short. short_by (nat_lt (length (drop 8 frame)) 2) _ (lt-ltb (length (drop 8 frame)) 2 short)) h bad.1)
+
+-- so it is told by whether a reader that stands there reads a STRING
+pub reads_client_id : {T : Type 0} (frame : List ℕ) (reading : Reading) (r : Result T ReadFault) → 8 ≤ length frame → unread reading ≡ drop 8 frame → (IsErrOf r (Short reading.at) ↔ (length (unread reading) < need 2 (int16_at (unread reading)))) → (IsErrOf r (BadLength reading.at) ↔ IsBadLength (int16_at (unread reading))) → IfErr r (λ fault. place_of fault ≡ reading.at) → is_ok r ≡ has_client_id frame
+reads_client_id frame reading (Ok x) long is short bad place =
+    sym (true_from_ne_false (has_client_id frame) (λ e. elim (bad_from_none frame long e).1 [
+      | inl h ↦ (let never = short.1 (rw is h) in cc)
+      | inr h ↦ (let never = bad.1 (rw is h) in cc)
+    ]))
+reads_client_id frame reading (Err (Short at)) long is short bad place =
+    sym (none_from_bad frame (long, inl (rw is at (short.0 (ap (λ n. Err (Short n)) place)))))
+reads_client_id frame reading (Err (BadLength at)) long is short bad place =
+    sym (none_from_bad frame (long, inr (rw is at (bad.0 (ap (λ n. Err (BadLength n)) place)))))

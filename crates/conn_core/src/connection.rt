@@ -297,7 +297,7 @@ impl Core {
         ensures err { OnErr result (kept self.new ≡ kept self.old) }
     {
         let request = self.requests;
-        match kind_of(frame)? {
+        match kind_of(frame.as_slice()) {
             FrameKind::PassedOn => self.join(frame.as_slice()),
             FrameKind::ToldVersions { correlation_id } => {
                 self.tell_versions(frame.as_slice(), correlation_id)

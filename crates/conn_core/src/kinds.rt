@@ -1,15 +1,17 @@
-ghost use Rattle.std.specs.Prelude.{◌≡◌, ◌≤◌, length, IfOk};
+ghost use Rattle.std.specs.Prelude.{◌≡◌, ◌≤◌, length};
 ghost use Rattle.conn_core.specs.Heads.{has_client_id, is_served};
 ghost use Rattle.conn_core.specs.Kinds.{IsKind};
 
-use bytes::Bytes;
-use framing::{HeadFault, RequestHead, start};
-use kp_edge::NoMemory;
+use framing::start;
 use kp_schema::{Dir, fields};
+use wire_types::Reader;
 
 const PRODUCE: i16 = 0;
 
 const API_VERSIONS: i16 = 18;
+
+/// The bytes of key, version and correlation id.
+const START: usize = 8;
 
 /// What a client's frame is, by its head.
 #[derive(Clone, Copy, Debug, PartialEq, Eq)]
@@ -24,38 +26,33 @@ pub(crate) enum FrameKind {
     BadHead,
 }
 
-pub(crate) fn kind_of(frame: &Bytes) -> Result<FrameKind, NoMemory>
+pub(crate) fn kind_of(frame: &[u8]) -> FrameKind
     requires { 8 ≤ length frame.now }
-    ensures { IfOk result (λ kind. IsKind frame.now kind) }
+    ensures { IsKind frame.now result }
 {
-    let Some((key, version, correlation_id)) = start(frame.as_slice()) else {
-        return Ok(FrameKind::BadHead);
+    let Some((key, version, correlation_id)) = start(frame) else {
+        return FrameKind::BadHead;
     };
     if !is_served(key, version) {
-        return Ok(if key == API_VERSIONS {
+        return if key == API_VERSIONS {
             FrameKind::ToldVersions { correlation_id }
         } else {
             FrameKind::Unsupported { key, version }
-        });
+        };
     }
-    Ok(if has_client_id(frame)? {
+    if has_client_id(frame) {
         FrameKind::PassedOn
     } else {
         FrameKind::BadHead
-    })
+    }
 }
 
 /// A client id stands behind the correlation id.
-fn has_client_id(frame: &Bytes) -> Result<bool, NoMemory>
+fn has_client_id(frame: &[u8]) -> bool
     requires { 8 ≤ length frame.now }
-    ensures { IfOk result (λ has. has ≡ has_client_id frame.now) }
+    ensures { result ≡ has_client_id frame.now }
 {
-    match RequestHead::read(frame) {
-        Ok(_) => Ok(true),
-        Err(HeadFault::BadClientId) => Ok(false),
-        Err(HeadFault::Short) => Ok(false),
-        Err(HeadFault::NoMemory) => Err(NoMemory),
-    }
+    Reader::new(frame.split_at(START).1).string().is_ok()
 }
 
 /// This version of this API is served.

@@ -254,6 +254,7 @@ push_full kind old core kept frame side later_side after handed stream s law fed
           bad_told = fed.bad_told ∙ sym bad_told;
         };
         tail_is = λ e. absurd (some_none e);
+        told = λ e. absurd (some_none e);
       };
     }
 
@@ -280,6 +281,10 @@ is_some-map f (Some x) = refl
 answer_all : (full refused : Bool) (closed : Bool) → full ≡ false → refused ≡ closed → (if closed then answer.Closed else answer.Fine) ≡ (if full then answer.Full else (if refused then answer.Closed else answer.Fine))
 answer_all true refused closed none is = cc
 answer_all false refused closed none is = ap (λ b. if b then answer.Closed else answer.Fine) (sym is)
+
+or_right : (a b : Bool) → b ≡ true → (a || b) ≡ true
+or_right true b e = refl
+or_right false b e = e
 
 -- each frame found room, and what stands behind them was told
 pub push_all : (kind : Kind) (old core last : Core) (kept : Option (List ℕ)) (side later_side : Side) (after : Feed) (handed : Handed) (stream : Stream) (s : State) (ends : List Event) → kind.refused reply.Noted ≡ false → kind.full reply.Noted ≡ false → Fed kind side kept stream → Stands most_in_flight old s → Hands kind old kept side.framer handed core after → handed.kept ≡ None → ends ≡ end_event kind stream (length after.rest) → Tells core (bad_told_once side.bad_told handed.bad ++ ends) last → later_side.framer ≡ after → later_side.ended ≡ side.ended → later_side.end_told ≡ (side.end_told || side.ended) → later_side.bad_told ≡ (side.bad_told || is_some handed.bad) → Push kind stream s last later_side None (if handed.refused then answer.Closed else answer.Fine)
@@ -338,6 +343,10 @@ push_all kind old core last kept side later_side after handed stream s ends quie
           bad_told = ap (λ x. x || is_some (bad_size kind.least kind.most after.rest)) fed.bad_told ∙ ap (λ x. side.bad_told || x) (sym (ap is_some bad_is ∙ is_some-map (kind.bad after.at) (bad_size kind.least kind.most after.rest))) ∙ sym bad_told;
         };
         tail_is = λ e. subst (λ (f : Feed). IsTail kind.least kind.most f.rest) (sym framer_is) tail_is;
+        told = λ e. record {
+          bad = λ is_bad. bad_told ∙ or_right side.bad_told (is_some handed.bad) (ap is_some bad_is ∙ is_some-map (kind.bad after.at) (bad_size kind.least kind.most after.rest) ∙ subst (λ (f : Feed). is_some (bad_size kind.least kind.most f.rest) ≡ true) framer_is is_bad);
+          end = λ is_ended. end_told ∙ or_right side.end_told side.ended (sym ended ∙ is_ended);
+        };
       };
     }
 
@@ -416,6 +425,10 @@ ends_all kind old last side later stream s framed stands tells framer_is ended e
       framed = record {
         fed = end_fed kind side later None stream _ fed framer_is ended (end_told ∙ sym (ap is_none_left left)) bad_told;
         tail_is = λ e. subst (λ (f : Feed). IsTail kind.least kind.most f.rest) (sym framer_is) (framed.tail_is refl);
+        told = λ e. record {
+          bad = λ is_bad. bad_told ∙ (framed.told refl).bad (subst (λ (f : Feed). is_some (bad_size kind.least kind.most f.rest) ≡ true) framer_is is_bad);
+          end = λ is_ended. end_told;
+        };
       };
     }
 
@@ -442,6 +455,7 @@ stream_ends kind old last (Some frame) side later stream s law framed stands tel
       framed = record {
         fed = end_fed kind side later (Some frame) stream _ fed framer_is ended (end_told ∙ sym (ap is_none_left left)) bad_told;
         tail_is = λ e. absurd (some_none e);
+        told = λ e. absurd (some_none e);
       };
     }
 
@@ -451,3 +465,46 @@ no_end kind stream rest e = sym (ap (λ b. if b && not stream.end_told then kind
 
 pub same_end : (kind : Kind) (stream : Stream) (side : Side) (rest : ℕ) → stream.ended ≡ side.ended → stream.end_told ≡ side.end_told → (if side.ended && not side.end_told then kind.end rest ∷ [] else []) ≡ end_event kind stream rest
 same_end kind stream side rest ended told = sym (ap (λ b. if b && not stream.end_told then kind.end rest ∷ [] else []) ended ∙ ap (λ b. if side.ended && not b then kind.end rest ∷ [] else []) told)
+
+-- Where no frame is kept and all was told, a push does nothing.
+no_bad : (kind : Kind) (told : Bool) (at : ℕ) (size : Option ℤ) → (is_some size ≡ true → told ≡ true) → bad_size_event kind told at size ≡ []
+no_bad kind told at None h = refl
+no_bad kind true at (Some size) h = refl
+no_bad kind false at (Some size) h = absurd (let never : false ≡ true = h refl in cc)
+
+all_told : (ended told : Bool) (event : Event) → (ended ≡ true → told ≡ true) → (if ended && not told then event ∷ [] else []) ≡ []
+all_told true true event h = refl
+all_told true false event h = absurd (let never : false ≡ true = h refl in cc)
+all_told false told event h = refl
+
+or_told : (told more : Bool) → (more ≡ true → told ≡ true) → (told || more) ≡ told
+or_told true more h = refl
+or_told false true h = absurd (let never : false ≡ true = h refl in cc)
+or_told false false h = refl
+
+pub pushes_nothing : (kind : Kind) (side : Side) (stream : Stream) (s : State) → Framed kind side None stream → Pushes served kind stream s [] stream s
+pushes_nothing kind side stream s framed =
+    let fed = framed.fed in
+    let told = framed.told refl in
+    let tail = side.framer.rest in
+    let frames = fed.given ++ [] in
+    let left : drop stream.handed frames ≡ [] = ap (λ n. drop n frames) fed.handed ∙ drop-append_seam fed.given [] in
+    let bad : is_some (bad_size kind.least kind.most tail) ≡ true → stream.bad_told ≡ true = λ e. fed.bad_told ∙ told.bad e in
+    let end : stream.ended ≡ true → stream.end_told ≡ true = λ e. fed.end_told ∙ told.end (sym fed.ended ∙ e) in
+    let none : behind_frames kind stream [] tail ≡ [] =
+    ap (λ es. es ++ end_event kind stream (length tail)) (no_bad kind stream.bad_told (length stream.bytes - length tail) (bad_size kind.least kind.most tail) bad)
+    ∙ all_told stream.ended stream.end_told (kind.end (length tail)) end in
+    let count : stream.handed ≡ length frames = fed.handed ∙ ap length (sym (append_nil fed.given)) in
+    record {
+      frames = frames;
+      tail = tail;
+      cut = record { whole = fed.whole; each = fed.each; tail_is = framed.tail_is refl };
+      left = [];
+      first = [];
+      between = s;
+      hands = subst (λ fs. HandsOn served kind s fs [] [] s) (sym left) (refl, refl);
+      rest = [];
+      behind = subst (λ es. Happens served s es [] s) (sym none) refl;
+      entries = refl;
+      after_is = rw (or_told stream.bad_told (is_some (bad_size kind.least kind.most tail)) bad, or_told stream.end_told stream.ended end, ← count) refl;
+    }

@@ -1,7 +1,7 @@
 -- What a station stands for: the code keeps the rest of each stream, the machine's play all of it.
-use Rattle.std.specs.Prelude.{◌≡◌, ℕ, ◌+◌, ◌<◌, List, ◌++◌, flat_map, length, All, Option, None}
+use Rattle.std.specs.Prelude.{◌≡◌, ℕ, ◌+◌, ◌<◌, true, is_some, List, ◌++◌, flat_map, length, All, Option, None}
 use Rattle.std.specs.Option.{option_to_list}
-use Rattle.framing.specs.Frames.{sized, IsFrame, IsTail}
+use Rattle.framing.specs.Frames.{sized, IsFrame, IsTail, bad_size}
 use Rattle.conn_rules.specs.declared.event.Event.{Event}
 use Rattle.conn_core.specs.Stands.{Stands}
 use Rattle.conn_rules.specs.History.{Entry}
@@ -27,10 +27,16 @@ pub record Fed (kind : Kind) (side : Side) (kept : Option (List ℕ)) (s : Strea
   pub end_told : s.end_told ≡ side.end_told
   pub bad_told : s.bad_told ≡ side.bad_told
 
--- Without such a frame the framer gave all.
+-- what stands behind the frames was told
+pub record Told (kind : Kind) (side : Side) : Type 0 where
+  pub bad : is_some (bad_size kind.least kind.most side.framer.rest) ≡ true → side.bad_told ≡ true
+  pub end : side.ended ≡ true → side.end_told ≡ true
+
+-- Without such a frame the framer gave all, and no more is to be told.
 pub record Framed (kind : Kind) (side : Side) (kept : Option (List ℕ)) (s : Stream) : Type 0 where
   pub fed : Fed kind side kept s
   pub tail_is : kept ≡ None → IsTail kind.least kind.most side.framer.rest
+  pub told : kept ≡ None → Told kind side
 
 pub record Stationed (x : Station) (p : Play) : Type 0 where
   pub core : Stands most_in_flight x.core p.state
@@ -54,6 +60,10 @@ pub record Pushed (p : Play) (a : Answer) (new : Station) : Type 0 where
 
 abbrev pub IsPush : Station → Answer → Station → Type 0
 IsPush old a new = (p : Play) → Unpushed old p → Pushed p a new
+
+-- the same where no piece came since the last push
+abbrev pub PushesAgain : Station → Station → Type 0
+PushesAgain old new = (p : Play) → Stationed old p → (history : List Entry) × (after : Play) × Pushes served client_kind p.client p.state history after.client after.state × (after.broker ≡ p.broker) × Stationed new after
 
 -- one event, and its answer
 abbrev pub Answers : Event → Station → Answer → Station → Type 0

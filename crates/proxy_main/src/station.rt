@@ -39,7 +39,7 @@ pub(crate) struct Station {
 }
 
 impl Station {
-    ghost use Rattle.proxy_main.specs.Stationed.{Stationed, IsPush, Answers, Performs};
+    ghost use Rattle.proxy_main.specs.Stationed.{Stationed, IsPush, PushesAgain, Answers, Performs};
     ghost use Rattle.proxy_main.specs.Played.{opening_play};
     ghost use Rattle.transcript.specs.declared.line.Line.TheVariants as line;
 
@@ -147,12 +147,23 @@ impl Station {
         Answer::Fine
     }
 
+    // Pushes again where a frame waits for room. Where none does, nothing is left to push.
+    fn push_again(&mut self) -> Result<(), NoMemory>
+        ensures { IfOk result (λ _. PushesAgain self.old self.new) }
+    {
+        if self.kept.is_none() {
+            return Ok(());
+        }
+        self.push()?;
+        Ok(())
+    }
+
     // An emit step makes room.
     fn emit(&mut self) -> Result<Answer, NoMemory>
         ensures { IfOk result (λ answer. Performs self.old line.Emit answer self.new) }
     {
         let answer = self.emit_step();
-        self.push()?;
+        self.push_again()?;
         Ok(answer)
     }
 

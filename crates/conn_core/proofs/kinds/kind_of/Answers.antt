@@ -10,7 +10,7 @@ use Rattle.conn_core.proofs.kinds.kind_of.Goals as goal
 pub returns-else-key-eq-API_VERSIONS : goal.returns-else-key-eq-API_VERSIONS
 returns-else-key-eq-API_VERSIONS c =
     let frame = c.args.frame.now in
-    let starts : Starts frame c.in-Some.key c.in-Some.version c.in-Some.correlation_id (drop 8 frame) = rw c.as_slice.ensures at c.in-Some.ensures.some in
+    let starts : Starts frame c.in-Some.key c.in-Some.version c.in-Some.correlation_id (drop 8 frame) = c.in-Some.ensures.some in
     let key : cast_signed w16 (cast_unsigned w16 c.in-Some.key) ≡ key_of frame = to_z-of_z w16 c.in-Some.key starts.key_fits ∙ sym (key_is frame _ _ _ _ starts) in
     let version : cast_signed w16 (cast_unsigned w16 c.in-Some.version) ≡ version_of frame = to_z-of_z w16 c.in-Some.version starts.version_fits ∙ sym (version_is frame _ _ _ _ starts) in
     let unserved : is_served (key_of frame) (version_of frame) ≡ false = rw (← key, ← version) (sym c.is_served.ensures ∙ c.if-not-is_served.true) in

@@ -4,5 +4,5 @@ use Rattle.proxy_main.proofs.station.Station.emit.Goals as goal
 pub returns : goal.returns
 returns c p st =
     let k = c.emit_step-answer.ensures p st in
-    let push = c.in_ok-push.ensures k.1 (record { core = k.3.core; client = k.3.client.fed; broker = k.3.broker }) in
-    (k.0 ++ push.history, push.after, record { between = k.1; first = k.0; asks = k.2; rest = push.history; pushes = push.pushes; other = push.other; entries = refl }, push.stationed)
+    let push = c.in_ok-push_again.ensures k.1 k.3 in
+    (k.0 ++ push.0, push.1, record { between = k.1; first = k.0; asks = k.2; rest = push.0; pushes = push.2; other = push.3; entries = refl }, push.4)
