@@ -590,6 +590,101 @@ const FAULTS: &[Exchange] = &[
     },
 ];
 
+// The shortest way to an answer at once, and to each of these ends.
+const SHORTEST: &[Exchange] = &[
+    Exchange {
+        name: "told the versions",
+        parts: &[
+            "
+                client 00000012001200030000000100016300036b63023100 -> ok
+                send -> none
+                emit -> to-client 0000001000000001002300000001001200000002
+            ",
+        ],
+    },
+    Exchange {
+        name: "another id",
+        parts: &[
+            "
+                client 00000014000c000000000001ffff0001670000000100016d -> ok
+                send -> to-broker 00000014000c000000000000ffff0001670000000100016d
+                broker 00000006000000050000 -> ok
+                emit -> over mismatch expected=0 found=5
+            ",
+        ],
+    },
+    Exchange {
+        name: "not asked for",
+        parts: &[
+            "
+                client 00000014000c000000000001ffff0001670000000100016d -> ok
+                broker 00000006000000000000 -> ok
+                emit -> over unasked found=0
+            ",
+        ],
+    },
+    Exchange {
+        name: "three bytes of a size",
+        parts: &[
+            "
+                client 000000 -> ok
+                client-end -> ok
+                emit -> over client-torn rest=3
+            ",
+        ],
+    },
+    Exchange {
+        name: "the end alone",
+        parts: &[
+            "
+                client-end -> ok
+                emit -> over ended
+            ",
+        ],
+    },
+    Exchange {
+        name: "one message waits",
+        parts: &[
+            "
+                client 00000014000c000000000001ffff0001670000000100016d -> ok
+                send -> to-broker 00000014000c000000000000ffff0001670000000100016d
+                broker-end -> ok
+                emit -> over broker-end waiting=1
+            ",
+        ],
+    },
+    Exchange {
+        name: "two bytes of a size",
+        parts: &[
+            "
+                client 00000014000c000000000001ffff0001670000000100016d -> ok
+                send -> to-broker 00000014000c000000000000ffff0001670000000100016d
+                broker 0000 -> ok
+                broker-end -> ok
+                emit -> over broker-torn rest=2
+            ",
+        ],
+    },
+    Exchange {
+        name: "no client id",
+        parts: &[
+            "
+                client 00000008000c000000000001 -> ok
+                emit -> over bad-head request=0
+            ",
+        ],
+    },
+    Exchange {
+        name: "version 4",
+        parts: &[
+            "
+                client 00000014000c000400000001ffff0001670000000100016d -> ok
+                emit -> over unsupported request=0 key=12 version=4
+            ",
+        ],
+    },
+];
+
 // Answers out of turn.
 const ANSWERS: &[Exchange] = &[
     Exchange {
@@ -1187,6 +1282,12 @@ fn first_other(alloc: Global, exchanges: &[Exchange]) -> Result<Option<&'static 
         }
     }
     Ok(None)
+}
+
+#[test]
+fn the_shortest_ways(rt: HostRuntime) -> Result<(), Fail> {
+    assert_eq!(rt; first_other(rt.alloc(), SHORTEST)?, None);
+    Ok(())
 }
 
 #[test]
