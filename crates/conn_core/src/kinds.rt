@@ -1,28 +1,24 @@
 ghost use Rattle.std.specs.Prelude.{◌≡◌, ◌≤◌, length};
-ghost use Rattle.conn_core.specs.Heads.{has_client_id, is_served};
+ghost use Rattle.conn_core.specs.Heads.{is_served};
 ghost use Rattle.conn_core.specs.Kinds.{IsKind};
 
-use framing::start;
+use framing::{has_client_id, start};
 use kp_schema::{Dir, fields};
-use wire_types::Reader;
 
 const PRODUCE: i16 = 0;
 
 const API_VERSIONS: i16 = 18;
 
-/// The bytes of key, version and correlation id.
-const START: usize = 8;
-
-/// What a client's frame is, by its head.
+// What a client's frame is, by its head.
 #[derive(Clone, Copy, Debug, PartialEq, Eq)]
 pub(crate) enum FrameKind {
-    /// A request that goes to the broker.
-    PassedOn,
-    /// A request for ApiVersions in a version that isn't known.
+    // A request that is sent to the broker.
+    Sent,
+    // A request for ApiVersions in a version that isn't known.
     ToldVersions { correlation_id: i32 },
-    /// No request: its API or version isn't served.
+    // No request: its API or version isn't served.
     Unsupported { key: i16, version: i16 },
-    /// No request: its client id isn't spelled.
+    // No request: its client id isn't spelled.
     BadHead,
 }
 
@@ -41,21 +37,13 @@ pub(crate) fn kind_of(frame: &[u8]) -> FrameKind
         };
     }
     if has_client_id(frame) {
-        FrameKind::PassedOn
+        FrameKind::Sent
     } else {
         FrameKind::BadHead
     }
 }
 
-/// A client id stands behind the correlation id.
-fn has_client_id(frame: &[u8]) -> bool
-    requires { 8 ≤ length frame.now }
-    ensures { result ≡ has_client_id frame.now }
-{
-    Reader::new(frame.split_at(START).1).string().is_ok()
-}
-
-/// This version of this API is served.
+// This version of this API is served.
 fn is_served(key: i16, version: i16) -> bool
     ensures { result ≡ is_served key version }
 {

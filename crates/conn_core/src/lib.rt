@@ -1,25 +1,27 @@
-//! One proxied connection without its streams: requests come in, messages for the broker and responses for
-//! the client come out, in the order that `conn_rules` gives.
+//! One proxied connection without its streams, for what requests mean today: they are known by their heads, and their
+//! bodies pass unread.
 //!
 //! ```text
-//!   client frame --take--> a slot, and a message --send--> broker
-//!   client <--emit-- response, in its slot <--answer-- broker frame
+//!   client frame --take--> Heads::begin: sent to the broker | told the known versions | no request
+//!   client <--emit-- response <--Heads::go_on-- the body of the broker's answer
 //! ```
 //!
-//! Each call is one event of the machine of `conn_rules`, over the meaning `heads`: what a request is asked by its
-//! head, and bodies pass unread. It reads no socket and cuts no stream.
+//! [`Heads`] is a service of `serving`, whose [`Core`] does at each event what the machine of `conn_rules` does. This
+//! crate reads no socket and cuts no stream.
 #![tactic(auto)]
 
 mod connection;
-mod frames;
+mod heads;
 mod kinds;
 mod laws;
-mod slot;
 #[cfg(test)]
 mod steady;
 #[cfg(test)]
 mod tests;
 
-pub use conn_rules::{AnswerFault, CompleteFault, Emit, Fault, Look, TakeFault, Ticket};
+pub use conn_rules::{
+    AnswerFault, CompleteFault, Connection, Emit, Fault, Look, TakeFault, Ticket,
+};
 pub use connection::Core;
+pub use heads::Heads;
 pub use laws::heads_law;

@@ -1,11 +1,15 @@
 // A connection that stays full: 64 requests in flight, and each answer makes room for the next. `bench/in_flight.sh`
 // times these tests by their names.
-use crate::{Core, Emit};
+use crate::{Connection, Core, Emit};
 use bytes::Bytes;
+use kp_edge::Steps;
 use std::alloc::{AllocError, Global};
 use std::test::Fail;
 
 const IN_FLIGHT: u32 = 64;
+
+// What is counted here: nothing.
+struct Counted;
 
 // A Heartbeat's head without a client id.
 fn request(alloc: Global, id: u32) -> Result<Bytes, AllocError> {
@@ -22,13 +26,17 @@ fn answer(alloc: Global, number: u32) -> Result<Bytes, AllocError> {
 // The next request finds room, and goes out.
 fn is_taken(alloc: Global, core: &mut Core, id: u32) -> Result<bool, AllocError> {
     let frame = request(alloc, id)?;
-    Ok(frame.len() >= 8 && core.take(frame).is_ok() && core.send().is_some())
+    Ok(
+        frame.len() >= 8
+            && core.take(frame, &mut Steps::<Counted>::new()).is_ok()
+            && core.send().is_some(),
+    )
 }
 
 // The oldest is answered, and its response has the client's id.
 fn is_answered(alloc: Global, core: &mut Core, number: u32, own: u32) -> Result<bool, AllocError> {
     let frame = answer(alloc, number)?;
-    if frame.len() < 4 || core.answer(frame).is_err() {
+    if frame.len() < 4 || core.answer(frame, &mut Steps::<Counted>::new()).is_err() {
         return Ok(false);
     }
     let id = own.to_be_bytes();

@@ -3,9 +3,9 @@
 use self::by_ends::{ENDS, FAILED, VERDICTS};
 use self::by_requests::{ANSWERS, IN_ORDER, NO_REQUESTS, TOLD};
 use self::by_room::{AT_ONE, AT_SIXTY_FOUR, LOOKS};
-use crate::{AnswerFault, CompleteFault, Core, Emit, Fault, Look, TakeFault};
+use crate::{AnswerFault, CompleteFault, Connection, Core, Emit, Fault, Look, TakeFault, Ticket};
 use bytes::Bytes;
-use kp_edge::{Blob, End};
+use kp_edge::{Blob, End, Steps};
 use std::alloc::{AllocError, Global};
 use std::test::Fail;
 
@@ -31,17 +31,27 @@ enum Line {
     Look,
 }
 
-#[derive(Clone, Copy)]
-enum Want {
+// What is answered to a line.
+#[derive(Clone, Copy, Debug)]
+enum Told<B> {
     Fine,
-    Back(&'static [u8]),
-    Full(u32, u64, &'static [u8]),
-    Bytes(&'static [u8]),
+    Back(B),
+    Full(u32, u64, B),
+    Bytes(B),
     Nothing,
     Later,
     Over(End),
     Looks(Look),
+    Ticket(u64, u32),
+    NoMemory,
 }
+
+type Want = Told<&'static [u8]>;
+
+type Got = Told<Bytes>;
+
+// What is counted in the tests.
+struct Counted;
 
 const H7: &[u8] = b"\0\x0c\0\0\0\0\0\x07\xff\xff\0\x01g\0\0\0\x01\0\x01m";
 
@@ -64,62 +74,90 @@ const V1: &[u8] = b"\0\x12\0\x03\0\0\0\x01\0\x01c\0\x03kc\x021\0";
 
 const V1_TOLD: &[u8] = b"\0\0\0\x10\0\0\0\x01\0\x23\0\0\0\x01\0\x12\0\0\0\x02";
 
-// a frame that comes back is the one that was handed in
-fn taken(told: Result<(), TakeFault>, want: Want) -> bool {
-    match (told, want) {
-        (Ok(()), Want::Fine) => true,
-        (Err(TakeFault::Ending(frame)), Want::Back(bytes)) => frame.as_slice() == bytes,
-        (Err(TakeFault::Full { count, held, frame }), Want::Full(many, size, bytes)) => {
-            count == many && held == size && frame.as_slice() == bytes
+// What the core answered to a line.
+fn taken(told: Result<(), TakeFault>) -> Got {
+    match told {
+        Ok(()) => Told::Fine,
+        Err(TakeFault::Ending(frame)) => Told::Back(frame),
+        Err(TakeFault::Full { count, held, frame }) => Told::Full(count, held, frame),
+        Err(TakeFault::NoMemory) => Told::NoMemory,
+    }
+}
+
+fn answered(told: Result<(), AnswerFault>) -> Got {
+    match told {
+        Ok(()) => Told::Fine,
+        Err(AnswerFault::Dead(frame)) => Told::Back(frame),
+        Err(AnswerFault::NoMemory) => Told::NoMemory,
+    }
+}
+
+fn completed(alloc: Global, told: Result<(), CompleteFault>) -> Result<Got, AllocError> {
+    match told {
+        Ok(()) => Ok(Told::Fine),
+        Err(CompleteFault::NotWaiting(verdict)) => {
+            Ok(Told::Back(Bytes::copy_from_slice(alloc, verdict.as_slice())?))
         }
-        _ => false,
+        Err(CompleteFault::NoMemory) => Ok(Told::NoMemory),
     }
 }
 
-fn answered(told: Result<(), AnswerFault>, want: Want) -> bool {
-    match (told, want) {
-        (Ok(()), Want::Fine) => true,
-        (Err(AnswerFault::Dead(frame)), Want::Back(bytes)) => frame.as_slice() == bytes,
-        _ => false,
+fn sent(frame: Option<Bytes>) -> Got {
+    match frame {
+        Some(frame) => Told::Bytes(frame),
+        None => Told::Nothing,
     }
 }
 
-fn completed(told: Result<(), CompleteFault>, want: Want) -> bool {
-    match (told, want) {
-        (Err(CompleteFault::NotWaiting(verdict)), Want::Back(bytes)) => {
-            verdict.as_slice() == bytes
+fn emitted(emit: Emit) -> Got {
+    match emit {
+        Emit::Bytes(response) => Told::Bytes(response),
+        Emit::Later => Told::Later,
+        Emit::Over(why) => Told::Over(why),
+    }
+}
+
+fn picked(ticket: Option<Ticket>) -> Got {
+    match ticket {
+        Some(ticket) => Told::Ticket(ticket.request, ticket.index),
+        None => Told::Nothing,
+    }
+}
+
+// It is what was wanted.
+fn is_wanted(got: &Got, want: Want) -> bool {
+    match (got, want) {
+        (Told::Fine, Told::Fine) => true,
+        (Told::Back(bytes), Told::Back(wanted)) => bytes.as_slice() == wanted,
+        (Told::Full(count, held, frame), Told::Full(many, size, wanted)) => {
+            *count == many && *held == size && frame.as_slice() == wanted
         }
+        (Told::Bytes(bytes), Told::Bytes(wanted)) => bytes.as_slice() == wanted,
+        (Told::Nothing, Told::Nothing) => true,
+        (Told::Later, Told::Later) => true,
+        (Told::Over(why), Told::Over(wanted)) => *why == wanted,
+        (Told::Looks(look), Told::Looks(wanted)) => *look == wanted,
         _ => false,
     }
 }
 
-fn sent(frame: Option<Bytes>, want: Want) -> bool {
-    match (frame, want) {
-        (Some(frame), Want::Bytes(bytes)) => frame.as_slice() == bytes,
-        (None, Want::Nothing) => true,
-        _ => false,
+fn takes(core: &mut Core, frame: Bytes) -> Got {
+    if frame.len() < 8 {
+        return Told::Nothing;
     }
+    taken(core.take(frame, &mut Steps::<Counted>::new()))
 }
 
-fn emitted(emit: Emit, want: Want) -> bool {
-    match (emit, want) {
-        (Emit::Bytes(response), Want::Bytes(bytes)) => response.as_slice() == bytes,
-        (Emit::Later, Want::Later) => true,
-        (Emit::Over(why), Want::Over(end)) => why == end,
-        _ => false,
+// The first of so many frames that isn't taken, or the last.
+fn takes_many(alloc: Global, core: &mut Core, times: u32, frame: &[u8]) -> Result<Got, AllocError> {
+    let mut got = Told::Nothing;
+    for _ in 0..times {
+        got = takes(core, Bytes::copy_from_slice(alloc, frame)?);
+        if !is_wanted(&got, Told::Fine) {
+            break;
+        }
     }
-}
-
-fn looks(look: Look, want: Want) -> bool {
-    match want {
-        Want::Looks(wanted) => look == wanted,
-        _ => false,
-    }
-}
-
-// whether this client frame is answered so
-fn takes(core: &mut Core, frame: Bytes, want: Want) -> bool {
-    frame.len() >= 8 && taken(core.take(frame), want)
+    Ok(got)
 }
 
 fn with_client_id(alloc: Global, length: i16, bytes: u32) -> Result<Bytes, AllocError> {
@@ -132,61 +170,73 @@ fn with_client_id(alloc: Global, length: i16, bytes: u32) -> Result<Bytes, Alloc
     Ok(Bytes::from_vec(frame)?)
 }
 
-// whether the core answers this line so
-fn says(alloc: Global, core: &mut Core, line: Line, want: Want) -> Result<bool, AllocError> {
+// What the core answers to this line.
+fn reply_to(alloc: Global, core: &mut Core, line: Line) -> Result<Got, AllocError> {
     match line {
-        Line::Client(bytes) => Ok(takes(core, Bytes::copy_from_slice(alloc, bytes)?, want)),
-        Line::Clients(times, bytes) => {
-            for _ in 0..times {
-                if !takes(core, Bytes::copy_from_slice(alloc, bytes)?, want) {
-                    return Ok(false);
-                }
-            }
-            Ok(true)
-        }
-        Line::ClientId(length, bytes) => {
-            Ok(takes(core, with_client_id(alloc, length, bytes)?, want))
-        }
+        Line::Client(bytes) => Ok(takes(core, Bytes::copy_from_slice(alloc, bytes)?)),
+        Line::Clients(times, bytes) => takes_many(alloc, core, times, bytes),
+        Line::ClientId(length, bytes) => Ok(takes(core, with_client_id(alloc, length, bytes)?)),
         Line::Broker(bytes) => {
             let frame = Bytes::copy_from_slice(alloc, bytes)?;
-            Ok(frame.len() >= 4 && answered(core.answer(frame), want))
+            if frame.len() < 4 {
+                return Ok(Told::Nothing);
+            }
+            Ok(answered(core.answer(frame, &mut Steps::<Counted>::new())))
         }
         Line::Verdict(bytes) => {
             let verdict = Blob::from_vec(Vec::from_slice(alloc, bytes)?);
-            Ok(completed(core.complete(0, 0, verdict), want))
+            completed(
+                alloc,
+                core.complete(0, 0, verdict, &mut Steps::<Counted>::new()),
+            )
         }
         Line::ClientEnd(rest) => {
             core.client_end(rest);
-            Ok(true)
+            Ok(Told::Fine)
         }
         Line::BrokerEnd(rest) => {
             core.broker_end(rest);
-            Ok(true)
+            Ok(Told::Fine)
         }
         Line::Fails(fault) => {
             core.fault(fault);
-            Ok(true)
+            Ok(Told::Fine)
         }
-        Line::Send => Ok(sent(core.send(), want)),
-        Line::Emit => Ok(emitted(core.emit(), want)),
-        Line::Pick => Ok(core.pick().is_none()),
-        Line::Look => Ok(looks(core.look(), want)),
+        Line::Send => Ok(sent(core.send())),
+        Line::Emit => Ok(emitted(core.emit())),
+        Line::Pick => Ok(picked(core.pick())),
+        Line::Look => Ok(Told::Looks(core.look())),
     }
 }
 
-// the first line that a core with this limit answers otherwise
+// The first line that a core with this limit answers otherwise: its number, and what was got.
 fn wrong_line(
     alloc: Global,
     in_flight: u32,
     lines: &[(Line, Want)],
-) -> Result<Option<usize>, AllocError> {
+) -> Result<Option<(usize, Got)>, AllocError> {
     if in_flight == 0 || in_flight > 64 {
-        return Ok(Some(0));
+        return Ok(Some((0, Told::Nothing)));
     }
     let mut core = Core::new(alloc, in_flight);
     for (i, (line, want)) in lines.iter().enumerate() {
-        if !says(alloc, &mut core, *line, *want)? {
-            return Ok(Some(i));
+        let got = reply_to(alloc, &mut core, *line)?;
+        if !is_wanted(&got, *want) {
+            return Ok(Some((i, got)));
+        }
+    }
+    Ok(None)
+}
+
+// The first script of the table that is answered otherwise: its name, the line, what was wanted and what was got.
+fn wrong_script(
+    alloc: Global,
+    in_flight: u32,
+    scripts: &[(&'static str, &[(Line, Want)])],
+) -> Result<Option<(&'static str, usize, Option<Want>, Got)>, AllocError> {
+    for (name, lines) in scripts {
+        if let Some((i, got)) = wrong_line(alloc, in_flight, lines)? {
+            return Ok(Some((*name, i, lines.get(i).map(|line| line.1), got)));
         }
     }
     Ok(None)
@@ -205,12 +255,15 @@ fn scripts_are_answered(rt: HostRuntime) -> Result<(), Fail> {
         LOOKS,
         AT_SIXTY_FOUR,
     ] {
-        for (name, lines) in scripts {
-            assert_eq!(rt; wrong_line(rt.alloc(), 64, lines)?, None, "{name}");
+        if let Some((name, i, want, got)) = wrong_script(rt.alloc(), 64, scripts)? {
+            assert!(rt; false, "{name}, line {i}: wanted {want:?}, got {got:?}");
         }
     }
-    for (name, lines) in AT_ONE {
-        assert_eq!(rt; wrong_line(rt.alloc(), 1, lines)?, None, "{name}");
+    if let Some((name, i, want, got)) = wrong_script(rt.alloc(), 1, AT_ONE)? {
+        assert!(rt;
+            false,
+            "one in flight, {name}, line {i}: wanted {want:?}, got {got:?}"
+        );
     }
     Ok(())
 }

@@ -4,24 +4,25 @@ use Rattle.std.proofs.Common.{◌≡◌, ◌∙◌, ℕ, zero, suc, Bool, true, 
 use Rattle.std.proofs.lemmas.List.{append-nil, map-append}
 use Rattle.kp_edge.specs.declared.end.End.{End}
 use Rattle.conn_rules.specs.Meaning.{Meaning}
-use Rattle.conn_rules.specs.State.{Outside, NoResponse, Request, Sent, State, below, first_cause, cut_at, dead, halted, is_ending, give}
+use Rattle.conn_rules.specs.State.{Outside, NoResponse, Request, ListedSend, State, cut_at, dead, halted, give}
+use Rattle.conn_rules.specs.Causes.{below, first_cause, are_ending}
 use Rattle.conn_rules.specs.Settling.{Act, CutAt, Lists, listed, acted, next_act, after_acts, Settles}
 use Rattle.conn_rules.proofs.Grows.{Grows, grows_same, grows_grows, grows_behind, grows_given, frames_given}
 
 pub record Keeps (s : State) (joined : List (List ℕ)) (t : State) : Type 0 where
   pub requests : Grows s.requests t.requests
   pub frames : map (λ r. r.frame) t.requests ≡ map (λ r. r.frame) s.requests ++ joined
-  pub emitted : t.emitted ≡ s.emitted
-  pub over : t.over ≡ s.over
-  pub ending : is_ending s ≡ true → is_ending t ≡ true
+  pub passed : t.passed ≡ s.passed
+  pub over : t.causes.over ≡ s.causes.over
+  pub ending : are_ending s.causes ≡ true → are_ending t.causes ≡ true
 
 -- the requests stay, and what else is asked
-pub keeps_all : (s t : State) → t.requests ≡ s.requests → t.emitted ≡ s.emitted → t.over ≡ s.over → (is_ending s ≡ true → is_ending t ≡ true) → Keeps s [] t
+pub keeps_all : (s t : State) → t.requests ≡ s.requests → t.passed ≡ s.passed → t.causes.over ≡ s.causes.over → (are_ending s.causes ≡ true → are_ending t.causes ≡ true) → Keeps s [] t
 keeps_all s t h k o e =
     record {
       requests = rw h (grows_same s.requests);
       frames = rw h (sym (append-nil (map (λ r. r.frame) s.requests)));
-      emitted = k;
+      passed = k;
       over = o;
       ending = e;
     }
@@ -34,7 +35,7 @@ keeps_keeps s t u joined h k =
     record {
       requests = grows_grows s.requests t.requests u.requests h.requests k.requests;
       frames = k.frames ∙ (append-nil (map (λ r. r.frame) t.requests) ∙ h.frames);
-      emitted = k.emitted ∙ h.emitted;
+      passed = k.passed ∙ h.passed;
       over = k.over ∙ h.over;
       ending = λ e. k.ending (h.ending e);
     }
@@ -48,7 +49,7 @@ keeps_joined frame s =
     record {
       requests = grows_behind s.requests (record { frame = frame; given = [] } ∷ []);
       frames = map-append (λ (r : Request). r.frame) s.requests (record { frame = frame; given = [] } ∷ []);
-      emitted = refl;
+      passed = refl;
       over = refl;
       ending = λ e. e;
     }
@@ -58,7 +59,7 @@ keeps_give k x s =
     record {
       requests = grows_given x s.requests k;
       frames = frames_given x (slice_get s.requests k) s.requests k refl ∙ sym (append-nil (map (λ r. r.frame) s.requests));
-      emitted = refl;
+      passed = refl;
       over = refl;
       ending = λ e. e;
     }
@@ -88,16 +89,16 @@ ends_halt false true d = refl
 ends_halt false false d = refl
 
 pub keeps_cut : (k : ℕ) (why : End) (s : State) → Keeps s [] (cut_at k why s)
-keeps_cut k why s = keeps_all s (cut_at k why s) refl refl refl (ends_cut (is_some s.cut) _ (is_some s.death) (is_some s.halt) (is_some s.over) (some_cut (below s.cut k) s.cut (k, why)))
+keeps_cut k why s = keeps_all s (cut_at k why s) refl refl refl (ends_cut (is_some s.causes.cut) _ (is_some s.causes.death) (is_some s.causes.halt) (is_some s.causes.over) (some_cut (below s.causes.cut k) s.causes.cut (k, why)))
 
 pub keeps_dead : (why : End) (s : State) → Keeps s [] (dead why s)
-keeps_dead why s = keeps_all s (dead why s) refl refl refl (λ e. rw (some_first s.death why) (ends_death (is_some s.cut) (is_some s.halt) (is_some s.over)))
+keeps_dead why s = keeps_all s (dead why s) refl refl refl (λ e. rw (some_first s.causes.death why) (ends_death (is_some s.causes.cut) (is_some s.causes.halt) (is_some s.causes.over)))
 
 pub keeps_halted : (why : End) (s : State) → Keeps s [] (halted why s)
-keeps_halted why s = keeps_all s (halted why s) refl refl refl (λ e. rw (some_first s.halt why) (ends_halt (is_some s.cut) (is_some s.death) (is_some s.over)))
+keeps_halted why s = keeps_all s (halted why s) refl refl refl (λ e. rw (some_first s.causes.halt why) (ends_halt (is_some s.causes.cut) (is_some s.causes.death) (is_some s.causes.over)))
 
 -- settling
-keeps_listed : (d : Sent) (s : State) → Keeps s [] (listed d s)
+keeps_listed : (d : ListedSend) (s : State) → Keeps s [] (listed d s)
 keeps_listed d s =
     let t : State = record s { sends = s.sends ++ d ∷ [] } in
     let here : Keeps s [] t = keeps_all s t refl refl refl (λ e. e) in

@@ -4,3 +4,7 @@ pub mod Quiet
 pub mod Order
 pub mod Requests
 pub mod Ends
+pub mod Lists
+pub mod Sweep
+pub mod Worked
+pub mod Brings

@@ -1,7 +1,9 @@
--- The law of order. At every moment the requests that emit steps passed are done, and what was emitted is their
+-- The law of order. At every moment the requests that emit steps passed are done, and what was passed is their
 -- responses, one after another.
-use Rattle.std.proofs.Common.{◌≡◌, ◌∙◌, ap, ℕ, zero, suc, ◌+◌, Bool, true, false, ◌&&◌, is_some, if◌then◌else◌, List, [], ◌∷◌, ◌++◌, refl, sym, take, drop, length, append_assoc, Option, Some, None, Ok, slice_get, inl, inr, zero-add, add-one, suc-add}
+use Rattle.std.proofs.Common.{MatchBool, ◌≤◌, arith, ◌≡◌, ◌∙◌, ap, ℕ, zero, suc, ◌+◌, Bool, true, false, ◌&&◌, is_some, if◌then◌else◌, List, [], ◌∷◌, ◌++◌, refl, sym, take, drop, length, append_assoc, Option, Some, None, Ok, slice_get, inl, inr, zero-add, add-one, suc-add}
 use Rattle.std.proofs.lemmas.List.{append-nil}
+use Rattle.std.specs.List.{AllByRecursion}
+use Rattle.std.proofs.lemmas.List.Elements.{All-from_recursion}
 use Rattle.std.specs.List.{flat_map}
 use Rattle.kp_edge.specs.declared.end.End.{End}
 use Rattle.kp_edge.specs.declared.end.End.TheVariants as end
@@ -10,11 +12,12 @@ use Rattle.conn_rules.specs.declared.event.Event.TheVariants as event
 use Rattle.conn_rules.specs.declared.event.Reply.{Reply}
 use Rattle.conn_rules.specs.declared.event.Reply.TheVariants as reply
 use Rattle.conn_rules.specs.declared.event.Emit.TheVariants as emit
-use Rattle.conn_rules.specs.Meaning.{Meaning, Lasting, Status, Waits, Done, Fails}
-use Rattle.conn_rules.specs.State.{Request, State, opening, below, halted, is_ending, in_flight, held}
+use Rattle.conn_rules.specs.Meaning.{Meaning, Lasting, CarriesId, Status, Waits, Done, Fails}
+use Rattle.conn_rules.specs.State.{Request, State, opening, halted, in_flight, held}
+use Rattle.conn_rules.specs.Causes.{below, are_ending, cut_cause}
 use Rattle.conn_rules.specs.Settling.{Settles}
-use Rattle.conn_rules.specs.Steps.{joined, response_of, response_in, silent_run, silent_passed, cause_at, over_or, respond_or, told_again, emit_step, answer_to, May}
-use Rattle.conn_rules.specs.History.{Entry, Runs, IsHistory, to_client, out, response_bytes, replies}
+use Rattle.conn_rules.specs.Steps.{joined, response_of, response_in, silent_run, silent_passed, over_or, respond_or, told_again, emit_step, answer_to, StepOrNoMemory}
+use Rattle.conn_rules.specs.History.{Entry, LeadsTo, IsHistory, to_client, out, response_bytes, responses, IsAnswered, IsInOrder}
 use Rattle.conn_rules.proofs.Grows.{Later, Grows}
 use Rattle.conn_rules.proofs.Keeps.{Keeps, keeps_same, keeps_joined, keeps_cut, keeps_halted, keeps_settling}
 use Rattle.conn_rules.proofs.Quiet.{Quiet, IsQuiet, quiet_event, memory_gives}
@@ -30,8 +33,8 @@ AllDone M (suc n) [] = ⊥
 AllDone M (suc n) (r ∷ rs) = ((response : List ℕ) × IsDone M r response) × AllDone M n rs
 
 -- the responses of the first n requests
-abbrev pub first_replies : Meaning → ℕ → List Request → List ℕ
-first_replies M n rs = flat_map (λ r. response_bytes (M.status r.frame r.given)) (take n rs)
+abbrev pub first_responses : Meaning → ℕ → List Request → List ℕ
+first_responses M n rs = flat_map (λ r. response_bytes (M.status r.frame r.given)) (take n rs)
 
 -- done stays done, with the same response
 done_later : (M : Meaning) → Lasting M → (r t : Request) → Later r t → (response : List ℕ) → IsDone M r response → IsDone M t response
@@ -45,13 +48,13 @@ all_later M lasting (suc n) (r ∷ rs) [] h k = absurd h
 all_later M lasting (suc n) (r ∷ rs) (t ∷ ts) h k =
     ((k.0.0, done_later M lasting r t h.0 k.0.0 k.0.1), all_later M lasting n rs ts h.1 k.1)
 
-replies_later : (M : Meaning) → Lasting M → (n : ℕ) (rs ts : List Request) → Grows rs ts → AllDone M n rs → first_replies M n ts ≡ first_replies M n rs
-replies_later M lasting zero rs ts h k = refl
-replies_later M lasting (suc n) [] ts h k = absurd k
-replies_later M lasting (suc n) (r ∷ rs) [] h k = absurd h
-replies_later M lasting (suc n) (r ∷ rs) (t ∷ ts) h k =
+responses_later : (M : Meaning) → Lasting M → (n : ℕ) (rs ts : List Request) → Grows rs ts → AllDone M n rs → first_responses M n ts ≡ first_responses M n rs
+responses_later M lasting zero rs ts h k = refl
+responses_later M lasting (suc n) [] ts h k = absurd k
+responses_later M lasting (suc n) (r ∷ rs) [] h k = absurd h
+responses_later M lasting (suc n) (r ∷ rs) (t ∷ ts) h k =
     let here : M.status t.frame t.given ≡ M.status r.frame r.given = done_later M lasting r t h.0 k.0.0 k.0.1 ∙ sym k.0.1 in
-    let behind : first_replies M n ts ≡ first_replies M n rs = replies_later M lasting n rs ts h.1 k.1 in
+    let behind : first_responses M n ts ≡ first_responses M n rs = responses_later M lasting n rs ts h.1 k.1 in
     rw (here, behind)
 
 -- n requests, and j behind them
@@ -60,10 +63,10 @@ all_more M zero j rs h k = rw zero-add k
 all_more M (suc n) j [] h k = absurd h
 all_more M (suc n) j (r ∷ rs) h k = rw suc-add (h.0, all_more M n j rs h.1 k)
 
-replies_more : (M : Meaning) (n j : ℕ) (rs : List Request) → AllDone M n rs → first_replies M (n + j) rs ≡ first_replies M n rs ++ first_replies M j (drop n rs)
-replies_more M zero j rs h = rw zero-add
-replies_more M (suc n) j [] h = absurd h
-replies_more M (suc n) j (r ∷ rs) h = rw (suc-add, replies_more M n j rs h.1) (sym (append_assoc (response_bytes (M.status r.frame r.given)) _ _))
+responses_more : (M : Meaning) (n j : ℕ) (rs : List Request) → AllDone M n rs → first_responses M (n + j) rs ≡ first_responses M n rs ++ first_responses M j (drop n rs)
+responses_more M zero j rs h = rw zero-add
+responses_more M (suc n) j [] h = absurd h
+responses_more M (suc n) j (r ∷ rs) h = rw (suc-add, responses_more M n j rs h.1) (sym (append_assoc (response_bytes (M.status r.frame r.given)) _ _))
 
 -- a request that an emit step passes in silence is done, and has no bytes
 silent_one : (M : Meaning) (r : Request) (rs : List Request) (low silent : Bool) (status : Status) (n : ℕ) → M.status r.frame r.given ≡ status → AllDone M n rs → AllDone M (if low && silent && is_some (response_of status) then suc n else 0) (r ∷ rs)
@@ -77,7 +80,7 @@ silent_done : (M : Meaning) (cut : Option (ℕ × End)) (k : ℕ) (rs : List Req
 silent_done M cut k [] = tt
 silent_done M cut k (r ∷ rs) = silent_one M r rs (below cut k) (M.silent r.frame) (M.status r.frame r.given) _ refl (silent_done M cut (suc k) rs)
 
-no_bytes_one : (M : Meaning) → Lasting M → (r : Request) (rs : List Request) (low silent : Bool) (status : Status) (n : ℕ) → M.silent r.frame ≡ silent → M.status r.frame r.given ≡ status → first_replies M n rs ≡ [] → first_replies M (if low && silent && is_some (response_of status) then suc n else 0) (r ∷ rs) ≡ []
+no_bytes_one : (M : Meaning) → Lasting M → (r : Request) (rs : List Request) (low silent : Bool) (status : Status) (n : ℕ) → M.silent r.frame ≡ silent → M.status r.frame r.given ≡ status → first_responses M n rs ≡ [] → first_responses M (if low && silent && is_some (response_of status) then suc n else 0) (r ∷ rs) ≡ []
 no_bytes_one M lasting r rs false silent status n still is h = refl
 no_bytes_one M lasting r rs true false status n still is h = refl
 no_bytes_one M lasting r rs true true (Waits ask) n still is h = refl
@@ -85,7 +88,7 @@ no_bytes_one M lasting r rs true true (Fails why) n still is h = refl
 no_bytes_one M lasting r rs true true (Done response) n still is h =
     rw (is, lasting.silence r.frame r.given response still is) h
 
-no_bytes : (M : Meaning) → Lasting M → (cut : Option (ℕ × End)) (k : ℕ) (rs : List Request) → first_replies M (silent_run M cut k rs) rs ≡ []
+no_bytes : (M : Meaning) → Lasting M → (cut : Option (ℕ × End)) (k : ℕ) (rs : List Request) → first_responses M (silent_run M cut k rs) rs ≡ []
 no_bytes M lasting cut k [] = refl
 no_bytes M lasting cut k (r ∷ rs) = no_bytes_one M lasting r rs (below cut k) (M.silent r.frame) (M.status r.frame r.given) _ refl refl (no_bytes M lasting cut (suc k) rs)
 
@@ -101,68 +104,68 @@ all_next M (suc n) [] response h k = absurd h
 all_next M zero (r ∷ rs) response h k = ((response, done_of _ response k), tt)
 all_next M (suc n) (r ∷ rs) response h k = (h.0, all_next M n rs response h.1 k)
 
-replies_next : (M : Meaning) (n : ℕ) (rs : List Request) (response : List ℕ) → AllDone M n rs → response_in M (slice_get rs n) ≡ Some response → first_replies M (suc n) rs ≡ first_replies M n rs ++ response
-replies_next M zero [] response h k = cc
-replies_next M (suc n) [] response h k = absurd h
-replies_next M zero (r ∷ rs) response h k = rw (done_of (M.status r.frame r.given) response k) (append-nil response)
-replies_next M (suc n) (r ∷ rs) response h k = rw (replies_next M n rs response h.1 k) (sym (append_assoc (response_bytes (M.status r.frame r.given)) _ _))
+responses_next : (M : Meaning) (n : ℕ) (rs : List Request) (response : List ℕ) → AllDone M n rs → response_in M (slice_get rs n) ≡ Some response → first_responses M (suc n) rs ≡ first_responses M n rs ++ response
+responses_next M zero [] response h k = cc
+responses_next M (suc n) [] response h k = absurd h
+responses_next M zero (r ∷ rs) response h k = rw (done_of (M.status r.frame r.given) response k) (append-nil response)
+responses_next M (suc n) (r ∷ rs) response h k = rw (responses_next M n rs response h.1 k) (sym (append_assoc (response_bytes (M.status r.frame r.given)) _ _))
 
 -- After an answer the passed requests are done, and their responses are those from before and what the answer gave.
 pub record Passes (M : Meaning) (s : State) (answer : Reply × State) : Type 0 where
-  pub done : AllDone M answer.1.emitted answer.1.requests
-  pub replies : replies M answer.1 ≡ replies M s ++ to_client answer.0
+  pub done : AllDone M answer.1.passed answer.1.requests
+  pub responses : responses M answer.1 ≡ responses M s ++ to_client answer.0
 
 passes_either : (M : Meaning) (s : State) (b : Bool) (x y : Reply × State) → Passes M s x → Passes M s y → Passes M s (if b then x else y)
 passes_either M s true x y h k = h
 passes_either M s false x y h k = k
 
 -- an answer that gives nothing and passes no request
-passes_quiet : (M : Meaning) → Lasting M → (s : State) (joined : List (List ℕ)) (answer : Reply × State) → AllDone M s.emitted s.requests → Keeps s joined answer.1 → to_client answer.0 ≡ [] → Passes M s answer
+passes_quiet : (M : Meaning) → Lasting M → (s : State) (joined : List (List ℕ)) (answer : Reply × State) → AllDone M s.passed s.requests → Keeps s joined answer.1 → to_client answer.0 ≡ [] → Passes M s answer
 passes_quiet M lasting s joined answer done keeps none =
-    let later : AllDone M s.emitted answer.1.requests = all_later M lasting s.emitted s.requests answer.1.requests keeps.requests done in
-    let same : first_replies M s.emitted answer.1.requests ≡ first_replies M s.emitted s.requests = replies_later M lasting s.emitted s.requests answer.1.requests keeps.requests done in
-    record { done = rw keeps.emitted later; replies = rw (keeps.emitted, same, none) (sym (append-nil (replies M s))) }
+    let later : AllDone M s.passed answer.1.requests = all_later M lasting s.passed s.requests answer.1.requests keeps.requests done in
+    let same : first_responses M s.passed answer.1.requests ≡ first_responses M s.passed s.requests = responses_later M lasting s.passed s.requests answer.1.requests keeps.requests done in
+    record { done = rw keeps.passed later; responses = rw (keeps.passed, same, none) (sym (append-nil (responses M s))) }
 
 -- the emit step
 module _ (M : Meaning) (s : State) where
   passes_over_or : (why : Option End) (t : State) (later : Reply × State) → Passes M s (reply.Noted, t) → Passes M s later → Passes M s (over_or why t later)
   passes_over_or None t later h k = k
-  passes_over_or (Some why) t later h k = record { done = h.done; replies = h.replies }
+  passes_over_or (Some why) t later h k = record { done = h.done; responses = h.responses }
 
-  passes_respond_or : (found : Option (List ℕ)) (t : State) (later : Reply × State) → response_in M (slice_get t.requests t.emitted) ≡ found → Passes M s (reply.Noted, t) → Passes M s later → Passes M s (respond_or found t later)
+  passes_respond_or : (found : Option (List ℕ)) (t : State) (later : Reply × State) → response_in M (slice_get t.requests t.passed) ≡ found → Passes M s (reply.Noted, t) → Passes M s later → Passes M s (respond_or found t later)
   passes_respond_or None t later is h k = k
   passes_respond_or (Some response) t later is h k =
-      let e : replies M t ≡ replies M s = h.replies ∙ append-nil (replies M s) in
+      let e : responses M t ≡ responses M s = h.responses ∙ append-nil (responses M s) in
       record {
-        done = rw add-one (all_next M t.emitted t.requests response h.done is);
-        replies = rw add-one (replies_next M t.emitted t.requests response h.done is ∙ ap (λ x. x ++ response) e);
+        done = rw add-one (all_next M t.passed t.requests response h.done is);
+        responses = rw add-one (responses_next M t.passed t.requests response h.done is ∙ ap (λ x. x ++ response) e);
       }
 
-  passes_told : (why : Option End) (later : Reply × State) → AllDone M s.emitted s.requests → Passes M s later → Passes M s (told_again why s later)
+  passes_told : (why : Option End) (later : Reply × State) → AllDone M s.passed s.requests → Passes M s later → Passes M s (told_again why s later)
   passes_told None later done h = h
-  passes_told (Some why) later done h = record { done = done; replies = sym (append-nil (replies M s)) }
+  passes_told (Some why) later done h = record { done = done; responses = sym (append-nil (responses M s)) }
 
-  passes_silent : Lasting M → AllDone M s.emitted s.requests → Passes M s (reply.Noted, silent_passed M s)
+  passes_silent : Lasting M → AllDone M s.passed s.requests → Passes M s (reply.Noted, silent_passed M s)
   passes_silent lasting done =
-      let j : ℕ = silent_run M s.cut s.emitted (drop s.emitted s.requests) in
+      let j : ℕ = silent_run M s.causes.cut s.passed (drop s.passed s.requests) in
       record {
-        done = all_more M s.emitted j s.requests done (silent_done M s.cut s.emitted (drop s.emitted s.requests));
-        replies = replies_more M s.emitted j s.requests done ∙ ap (λ x. replies M s ++ x) (no_bytes M lasting s.cut s.emitted (drop s.emitted s.requests));
+        done = all_more M s.passed j s.requests done (silent_done M s.causes.cut s.passed (drop s.passed s.requests));
+        responses = responses_more M s.passed j s.requests done ∙ ap (λ x. responses M s ++ x) (no_bytes M lasting s.causes.cut s.passed (drop s.passed s.requests));
       }
 
-  passes_emit : Lasting M → AllDone M s.emitted s.requests → Passes M s (emit_step M s)
+  passes_emit : Lasting M → AllDone M s.passed s.requests → Passes M s (emit_step M s)
   passes_emit lasting done =
       let t : State = silent_passed M s in
       let silent : Passes M s (reply.Noted, t) = passes_silent lasting done in
       let here : Passes M s (reply.Noted, s) = passes_quiet M lasting s [] (reply.Noted, s) done (keeps_same s) refl in
-      let later : Passes M s (reply.Emit emit.Later, t) = record { done = silent.done; replies = silent.replies } in
-      passes_told s.over _ done
-      (passes_over_or s.halt s _ here
-      (passes_over_or (cause_at t.cut t.emitted) t _ silent
-      (passes_respond_or _ t _ refl silent (passes_over_or s.death t _ silent later))))
+      let later : Passes M s (reply.Emit emit.Later, t) = record { done = silent.done; responses = silent.responses } in
+      passes_told s.causes.over _ done
+      (passes_over_or s.causes.halt s _ here
+      (passes_over_or (cut_cause t.causes.cut t.passed) t _ silent
+      (passes_respond_or _ t _ refl silent (passes_over_or s.causes.death t _ silent later))))
 
 -- every event
-module _ (M : Meaning) (lasting : Lasting M) (s : State) (done : AllDone M s.emitted s.requests) where
+module _ (M : Meaning) (lasting : Lasting M) (s : State) (done : AllDone M s.passed s.requests) where
   passes_same : (r : Reply) → to_client r ≡ [] → Passes M s (r, s)
   passes_same r none = passes_quiet M lasting s [] (r, s) done (keeps_same s) none
 
@@ -172,8 +175,8 @@ module _ (M : Meaning) (lasting : Lasting M) (s : State) (done : AllDone M s.emi
 
   passes_take : (frame : List ℕ) → Passes M s (answer_to M s (event.Take frame))
   passes_take frame =
-      passes_either M s (is_ending s) _ _ (passes_same _ refl)
-      (passes_either M s (M.room (in_flight s) (held s) (length frame)) _ _ (passes_refusal (M.refusal frame) frame) (passes_same _ refl))
+      passes_either M s (are_ending s.causes) _ _ (passes_same _ refl)
+      (passes_either M s (M.room (in_flight s) (held s) (length frame)) _ _ (passes_refusal (M.no_request frame) frame) (passes_same _ refl))
 
   passes_silently : (e : Event) → IsQuiet e → Passes M s (answer_to M s e)
   passes_silently e is =
@@ -197,20 +200,52 @@ module _ (M : Meaning) (lasting : Lasting M) (s : State) (done : AllDone M s.emi
   passes_settled answer t h settles =
       let keeps : Keeps answer.1 [] t = keeps_settling M answer.1 t settles in
       let next : Passes M answer.1 (reply.Noted, t) = passes_quiet M lasting answer.1 [] (reply.Noted, t) h.done keeps refl in
-      record { done = next.done; replies = next.replies ∙ (append-nil (replies M answer.1) ∙ h.replies) }
+      record { done = next.done; responses = next.responses ∙ (append-nil (responses M answer.1) ∙ h.responses) }
 
-  passes_event : (e : Event) (r : Reply) (t : State) → May M s e r t → Passes M s (r, t)
+  passes_event : (e : Event) (r : Reply) (t : State) → StepOrNoMemory M s e r t → Passes M s (r, t)
   passes_event e r t (inl h) = rw h.reply (passes_settled (answer_to M s e) t (passes_answered e) h.settles)
   passes_event e r t (inr h) =
       rw h.halts (passes_quiet M lasting s [] (r, halted end.NoMemory s) done (keeps_halted end.NoMemory s) (memory_gives r (answer_to M s e).0 h.reply))
 
--- over a run from any state whose passed requests are done
-order_from : (M : Meaning) → Lasting M → (s t : State) (hs : List Entry) → AllDone M s.emitted s.requests → Runs M s hs t → replies M t ≡ replies M s ++ out hs
-order_from M lasting s t [] done run = rw run (sym (append-nil (replies M s)))
+-- over entries from any state whose passed requests are done
+pub record OrderFrom (M : Meaning) (s t : State) (hs : List Entry) : Type 0 where
+  pub done : AllDone M t.passed t.requests
+  pub responses : responses M t ≡ responses M s ++ out hs
+
+order_from : (M : Meaning) → Lasting M → (s t : State) (hs : List Entry) → AllDone M s.passed s.requests → LeadsTo M s hs t → OrderFrom M s t hs
+order_from M lasting s t [] done run = rw run (record { done = done; responses = sym (append-nil (responses M s)) })
 order_from M lasting s t (h ∷ hs) done run =
     let here : Passes M s (h.reply, run.0) = passes_event M lasting s done h.event h.reply run.0 run.1 in
-    order_from M lasting run.0 t hs here.done run.2 ∙ (ap (λ x. x ++ out hs) here.replies ∙ append_assoc (replies M s) (to_client h.reply) (out hs))
+    let next : OrderFrom M run.0 t hs = order_from M lasting run.0 t hs here.done run.2 in
+    record {
+      done = next.done;
+      responses = next.responses ∙ (ap (λ x. x ++ out hs) here.responses ∙ append_assoc (responses M s) (to_client h.reply) (out hs));
+    }
+
+-- a request that is done is answered
+either_bytes : (M : Meaning) → Lasting M → (r : Request) (response : List ℕ) (silent : Bool) → M.silent r.frame ≡ silent → IsDone M r response → MatchBool silent (response ≡ []) (CarriesId r.frame response)
+either_bytes M lasting r response true is done = lasting.silence r.frame r.given response is done
+either_bytes M lasting r response false is done = lasting.own_id r.frame r.given response is done
+
+answered_one : (M : Meaning) → Lasting M → (r : Request) (response : List ℕ) → IsDone M r response → IsAnswered M r
+answered_one M lasting r response done = record { response = response; done = done; own_id = either_bytes M lasting r response (M.silent r.frame) refl done }
+
+there : (M : Meaning) (n : ℕ) (rs : List Request) → AllDone M n rs → n ≤ length rs
+there M zero rs h = omega arith
+there M (suc n) [] h = absurd h
+there M (suc n) (r ∷ rs) h = let behind : n ≤ length rs = there M n rs h.1 in omega arith
+
+answered_all : (M : Meaning) → Lasting M → (n : ℕ) (rs : List Request) → AllDone M n rs → AllByRecursion (IsAnswered M) (take n rs)
+answered_all M lasting zero rs h = tt
+answered_all M lasting (suc n) [] h = absurd h
+answered_all M lasting (suc n) (r ∷ rs) h = (answered_one M lasting r h.0.0 h.0.1, answered_all M lasting n rs h.1)
 
 -- and so over a history
-pub order : (M : Meaning) (hs : List Entry) (s : State) → Lasting M → IsHistory M hs s → out hs ≡ replies M s
-order M hs s lasting run = sym (order_from M lasting opening s hs tt run)
+pub order : (M : Meaning) (hs : List Entry) (s : State) → Lasting M → IsHistory M hs s → IsInOrder M hs s
+order M hs s lasting run =
+    let all : OrderFrom M opening s hs = order_from M lasting opening s hs tt run in
+    record {
+      sent_is = sym all.responses;
+      passed_there = there M s.passed s.requests all.done;
+      answered = All-from_recursion (IsAnswered M) (take s.passed s.requests) (answered_all M lasting s.passed s.requests all.done);
+    }

@@ -13,8 +13,10 @@ use Rattle.conn_rules.specs.declared.event.TakeFault.TheVariants as take_fault
 use Rattle.conn_rules.specs.declared.event.AnswerFault.TheVariants as answer_fault
 use Rattle.conn_rules.specs.declared.event.CompleteFault.TheVariants as complete_fault
 use Rattle.conn_rules.specs.Meaning.{Meaning}
-use Rattle.conn_rules.specs.State.{Body, Verdict, Sent, State, below, is_dead, is_still, upstream_id, found_id, due_send, waiting}
-use Rattle.conn_rules.specs.Steps.{read_body, matched, attributed, answer_step, open_hold, is_hold, complete_step, client_end, client_ended, broker_ended, faulted, noted, sent_next, first_hold, picked_next, answer_to, memory_answer}
+use Rattle.conn_rules.specs.State.{Body, Verdict, ListedSend, State, upstream_id, due_send, waiting}
+use Rattle.conn_rules.specs.Causes.{below, with_cut, client_ended, broker_ended, are_dead, are_still}
+use Rattle.framing.specs.CorrelationIds.{response_id}
+use Rattle.conn_rules.specs.Steps.{read_body, matched, attributed, answer_step, open_hold, is_hold, complete_step, client_end, faulted, noted, sent_next, first_hold, picked_next, answer_to, memory_answer}
 use Rattle.conn_rules.specs.History.{to_client}
 use Rattle.conn_rules.proofs.Keeps.{Keeps, keeps_all, keeps_same, keeps_keeps, keeps_either, keeps_give, keeps_cut, keeps_dead, keeps_halted}
 
@@ -50,30 +52,34 @@ module _ (M : Meaning) (s : State) where
   keeps_body None k body t h = keeps_keeps s t _ [] h (keeps_give k (Body body) t)
   keeps_body (Some why) k body t h = keeps_keeps s t _ [] h (keeps_cut k (why k) t)
 
-  keeps_matched : (d : Sent) (body : List ℕ) → Keeps s [] (matched M s d body)
+  keeps_matched : (d : ListedSend) (body : List ℕ) → Keeps s [] (matched M s d body)
   keeps_matched d body =
       let t : State = record s { answered = s.answered + 1 } in
-      keeps_either (below s.cut d.request) s _ t [] (keeps_body (M.unreadable d.before body) d.request body t keeps_counted) keeps_counted
+      keeps_either (below s.causes.cut d.request) s _ t [] (keeps_body (M.unreadable d.before body) d.request body t keeps_counted) keeps_counted
 
-  keeps_attributed : (frame : List ℕ) (due : Option (ℕ × Sent)) → Keeps s [] (attributed M s frame due)
-  keeps_attributed frame None = keeps_dead (end.Unasked (found_id frame)) s
+  keeps_attributed : (frame : List ℕ) (due : Option (ℕ × ListedSend)) → Keeps s [] (attributed M s frame due)
+  keeps_attributed frame None = keeps_dead (end.Unasked (response_id frame)) s
   keeps_attributed frame (Some due) =
-      keeps_either (int_eq (found_id frame) (pos (upstream_id due.0))) s _ _ [] (keeps_matched due.1 (drop 4 frame))
-      (keeps_dead (end.Mismatch (pos (upstream_id due.0)) (found_id frame)) s)
+      keeps_either (int_eq (response_id frame) (pos (upstream_id due.0))) s _ _ [] (keeps_matched due.1 (drop 4 frame))
+      (keeps_dead (end.Mismatch (pos (upstream_id due.0)) (response_id frame)) s)
 
   quiet_answer : (frame : List ℕ) → Quiet s (answer_step M s frame)
   quiet_answer frame =
-      quiet_either s (is_dead s) _ _ (quiet_same _ refl) (record { keeps = keeps_attributed frame (due_send s); silent = refl })
+      quiet_either s (are_dead s.causes) _ _ (quiet_same _ refl) (record { keeps = keeps_attributed frame (due_send s); silent = refl })
 
   quiet_complete : (k i : ℕ) (verdict : List ℕ) → Quiet s (complete_step M s k i verdict)
   quiet_complete k i verdict =
-      quiet_either s (not (is_still s) && is_hold i (open_hold M s k)) _ _ (record { keeps = keeps_give k (Verdict verdict) s; silent = refl }) (quiet_same _ refl)
+      quiet_either s (not (are_still s.causes) && is_hold i (open_hold M s k)) _ _ (record { keeps = keeps_give k (Verdict verdict) s; silent = refl }) (quiet_same _ refl)
 
   quiet_noted : (t : State) → Keeps s [] t → Quiet s (noted s t)
-  quiet_noted t h = record { keeps = keeps_either (is_some s.over) s s t [] (keeps_same s) h; silent = refl }
+  quiet_noted t h = record { keeps = keeps_either (is_some s.causes.over) s s t [] (keeps_same s) h; silent = refl }
+
+  keeps_ended : (dead : Bool) (why : End) → Keeps s [] (record s { causes = if dead then s.causes else with_cut (length s.requests) why s.causes })
+  keeps_ended true why = keeps_all s _ refl refl refl (λ e. e)
+  keeps_ended false why = keeps_cut (length s.requests) why s
 
   keeps_client_end : (rest : ℕ) → Keeps s [] (client_end rest s)
-  keeps_client_end rest = keeps_either (is_some s.death) s s _ [] (keeps_same s) (keeps_cut (length s.requests) (client_ended rest) s)
+  keeps_client_end rest = keeps_ended (is_some s.causes.death) (client_ended rest)
 
   keeps_fault : (x : Fault) → Keeps s [] (faulted M s x)
   keeps_fault fault.ClientRead = keeps_cut (length s.requests) end.ClientReadFault s
@@ -86,7 +92,7 @@ module _ (M : Meaning) (s : State) where
   keeps_fault fault.Thread = keeps_halted end.ThreadRefused s
   keeps_fault fault.NoMemory = keeps_halted end.NoMemory s
 
-  quiet_sent : (next : Option Sent) → Quiet s (sent_next s next)
+  quiet_sent : (next : Option ListedSend) → Quiet s (sent_next s next)
   quiet_sent None = quiet_same _ refl
   quiet_sent (Some d) = record { keeps = keeps_all s _ refl refl refl (λ e. e); silent = refl }
 
@@ -101,9 +107,9 @@ module _ (M : Meaning) (s : State) where
   quiet_event (event.ClientEnd rest) h = quiet_noted _ (keeps_client_end rest)
   quiet_event (event.BrokerEnd rest) h = quiet_noted _ (keeps_dead (broker_ended rest (waiting s)) s)
   quiet_event (event.Fault x) h = quiet_noted _ (keeps_fault x)
-  quiet_event event.Send h = quiet_either s (is_some s.death || is_some s.halt) _ _ (quiet_same _ refl) (quiet_sent (slice_get s.sends s.taken))
+  quiet_event event.Send h = quiet_either s (is_some s.causes.death || is_some s.causes.halt) _ _ (quiet_same _ refl) (quiet_sent (slice_get s.sends s.taken))
   quiet_event event.Emit h = absurd h
-  quiet_event event.Pick h = quiet_either s (is_still s) _ _ (quiet_same _ refl) (quiet_picked (first_hold M s.cut s.picked 0 s.requests))
+  quiet_event event.Pick h = quiet_either s (are_still s.causes) _ _ (quiet_same _ refl) (quiet_picked (first_hold M s.causes.cut s.picked 0 s.requests))
   quiet_event event.Look h = quiet_same _ refl
 
 -- want of memory gives the client nothing

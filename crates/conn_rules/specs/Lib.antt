@@ -1,5 +1,10 @@
+pub mod Causes
 pub mod Meaning
 pub mod State
 pub mod Settling
+pub mod Sweep
 pub mod Steps
 pub mod History
+pub mod Connections
+pub mod Worked
+pub mod Room

@@ -1,29 +1,30 @@
--- What requests do by themselves: fail, or put a message before the broker. After each event the connection
--- settles: the least request that can do either does it, until none can.
+-- What requests do by themselves: fail, or list a send for the broker. After each event the connection settles: the
+-- least request that can do either does it, until none can.
 use Rattle.std.specs.Prelude.{◌≡◌, ℕ, zero, suc, ◌==◌, ◌&&◌, ◌||◌, not, Bool, true, if◌then◌else◌, List, [], ◌∷◌, ◌++◌, length, Option, Some, None}
 use Rattle.std.specs.List.{list_any}
 use Rattle.kp_edge.specs.declared.end.End.{End}
-use Rattle.conn_rules.specs.State.{NoResponse, Request, Sent, State, below, cut_at, give}
+use Rattle.conn_rules.specs.State.{NoResponse, Request, ListedSend, State, cut_at, give}
+use Rattle.conn_rules.specs.Causes.{below}
 use Rattle.conn_rules.specs.Meaning.{Meaning, ToBroker, Hold, Status, Waits, Done, Fails}
 
 -- what a request does
 pub data Act : Type 0 where
   CutAt : (request : ℕ) (why : End) → Act
-  Lists : (message : Sent) → Act
+  Lists : (send : ListedSend) → Act
 
 -- ask number i of request k is among the sends
-abbrev pub is_listed : List Sent → ℕ → ℕ → Bool
+abbrev pub is_listed : List ListedSend → ℕ → ℕ → Bool
 is_listed sends k i = list_any (λ d. (d.request == k) && (d.ask == i)) sends
 
--- request k itself is among the sends, or done: it holds back no later one
-abbrev pub lets_pass : List Sent → ℕ → Status → Bool
-lets_pass sends k (Done response) = true
-lets_pass sends k (Waits ask) = list_any (λ d. (d.request == k) && d.main) sends
-lets_pass sends k (Fails why) = list_any (λ d. (d.request == k) && d.main) sends
+-- The main send of request k is listed, or the request is done. Then it holds back no later one.
+abbrev pub lets_later_go : List ListedSend → ℕ → Status → Bool
+lets_later_go sends k (Done response) = true
+lets_later_go sends k (Waits ask) = list_any (λ d. (d.request == k) && d.main) sends
+lets_later_go sends k (Fails why) = list_any (λ d. (d.request == k) && d.main) sends
 
--- What request k does with this status, if anything. Its message goes once, and the request itself only
--- where each earlier one lets it pass: requests reach the broker in the client's order.
-abbrev pub act_of : List Sent → (k i : ℕ) → (free : Bool) → Status → Option Act
+-- What request k does with this status, if anything. Each ask lists one send. A main send is listed only where no
+-- earlier request holds it back: main sends reach the broker in the client's order.
+abbrev pub act_of : List ListedSend → (k i : ℕ) → (free : Bool) → Status → Option Act
 act_of sends k i free (Fails why) = Some (CutAt k (why k))
 act_of sends k i free (Done response) = None
 act_of sends k i free (Waits (Hold key)) = None
@@ -37,18 +38,18 @@ or_else (Some act) later = Some act
 or_else None later = later
 
 -- the same of the requests from number k on: the least that does anything, and below the cut alone
-abbrev pub act_from : Meaning → List Sent → Option (ℕ × End) → (k : ℕ) → (free : Bool) → List Request → Option Act
+abbrev pub act_from : Meaning → List ListedSend → Option (ℕ × End) → (k : ℕ) → (free : Bool) → List Request → Option Act
 act_from M sends cut k free [] = None
 act_from M sends cut k free (r ∷ rs) =
     if below cut k
-    then or_else (act_of sends k (length r.given) free (M.status r.frame r.given)) (act_from M sends cut (suc k) (free && lets_pass sends k (M.status r.frame r.given)) rs)
+    then or_else (act_of sends k (length r.given) free (M.status r.frame r.given)) (act_from M sends cut (suc k) (free && lets_later_go sends k (M.status r.frame r.given)) rs)
     else None
 
 abbrev pub next_act : Meaning → State → Option Act
-next_act M s = act_from M s.sends s.cut 0 true s.requests
+next_act M s = act_from M s.sends s.causes.cut 0 true s.requests
 
--- A message joins the sends. One that gets no response counts as answered so at once.
-abbrev pub listed : Sent → State → State
+-- A send is listed. One that gets no response counts as answered without one at once.
+abbrev pub listed : ListedSend → State → State
 listed d s = if d.responds then record s { sends = s.sends ++ d ∷ [] } else give d.request NoResponse (record s { sends = s.sends ++ d ∷ [] })
 
 abbrev pub acted : Option Act → State → State

@@ -2,12 +2,15 @@ ghost use Rattle.std.specs.Prelude.{◌≡◌, ◌∷◌, ◌++◌, List, All};
 ghost use Rattle.kp_edge.specs.declared.end.End.{End};
 ghost use Rattle.conn_rules.specs.Meaning.{Meaning, Lasting};
 ghost use Rattle.conn_rules.specs.State.{State};
-ghost use Rattle.conn_rules.specs.History.{Entry, IsHistory, AreRequests, IsTold, IsToldIfEmit, out, replies, frames_taken};
+ghost use Rattle.conn_rules.specs.Worked.{worked_meaning, worked_exchange, told_ended};
+ghost use Rattle.conn_rules.specs.Sweep.{SweepLaws};
+ghost use Rattle.conn_rules.specs.History.{Entry, IsHistory, AreRequests, IsTold, IsToldIfEmit, IsInOrder, frames_taken, client_frames, AreFirst};
 
-/// The law of order: what a client was sent is the responses to the first of its requests, one after
-/// another, whatever came, in whatever order, and whenever memory was wanting.
+/// The law of order: what a client was sent is the responses to the first of its requests, one after another,
+/// whatever came, in whatever order, and whenever memory was wanting. Each of these requests is answered: its
+/// response carries the client's own correlation id, or is no bytes where the request is silent.
 pub fn order_law()
-    ensures { (M : Meaning) (hs : List Entry) (s : State) → Lasting M → IsHistory M hs s → out hs ≡ replies M s }
+    ensures { (M : Meaning) (hs : List Entry) (s : State) → Lasting M → IsHistory M hs s → IsInOrder M hs s }
 {}
 
 /// The requests of a connection are the frames that were taken from its client, in order.
@@ -15,7 +18,24 @@ pub fn requests_law()
     ensures { (M : Meaning) (hs : List Entry) (s : State) → IsHistory M hs s → AreRequests s (frames_taken hs) }
 {}
 
+/// The frames that were taken are the first of those that the client's side handed on: behind one that was not taken,
+/// though it found room, none is.
+pub fn first_frames_law()
+    ensures { (M : Meaning) (hs : List Entry) (s : State) → IsHistory M hs s → AreFirst (frames_taken hs) (client_frames hs) }
+{}
+
 /// Once the client's writer was told an end, it is told the same ever after.
 pub fn end_stays_law()
     ensures { (M : Meaning) (before behind : List Entry) (told : Entry) (why : End) (s : State) → IsTold why told → IsHistory M (before ++ told ∷ behind) s → All (IsToldIfEmit why) behind }
+{}
+
+/// Settling is one sweep over the requests, from the oldest on.
+pub fn sweep_laws()
+    ensures { (M : Meaning) → SweepLaws M }
+{}
+
+/// A whole exchange goes as it was worked through by hand: a Heartbeat, an ApiVersions request that is done before it,
+/// and the client's end.
+pub fn worked_exchange()
+    ensures { IsHistory worked_meaning worked_exchange told_ended }
 {}

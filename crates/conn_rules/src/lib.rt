@@ -8,8 +8,14 @@
 //! asks for and what its response is comes as a `Meaning`, which the crates above give.
 #![tactic(auto)]
 
+mod causes;
+mod connection;
 mod event;
 mod laws;
 
+pub use causes::Causes;
+pub use connection::Connection;
 pub use event::{AnswerFault, CompleteFault, Emit, Event, Fault, Look, Reply, TakeFault, Ticket};
-pub use laws::{end_stays_law, order_law, requests_law};
+pub use laws::{
+    end_stays_law, first_frames_law, order_law, requests_law, sweep_laws, worked_exchange,
+};

@@ -128,6 +128,23 @@ cut_in_pieces least most stream piece frames more tail rest a b =
       tail_is = b.tail_is;
     }
 
+-- frames at the front of a stream are the first of its cut
+first_by : (least most : ℕ) (given frames : List (List ℕ)) (rest tail : List ℕ) → AllByRecursion (IsFrame least most) given → AllByRecursion (IsFrame least most) frames → IsTail least most tail → flat_map sized given ++ rest ≡ flat_map sized frames ++ tail → (others : List (List ℕ)) × (frames ≡ given ++ others)
+first_by least most [] frames rest tail a b t e = (frames, refl)
+first_by least most (f ∷ fs) [] rest tail a b t e = absurd (nothing_before least most f fs tail rest a.0 t (sym e))
+first_by least most (f ∷ fs) (g ∷ gs) rest tail a b t e =
+    let e' : sized f ++ (flat_map sized fs ++ rest) ≡ sized g ++ (flat_map sized gs ++ tail) =
+    sym (append_assoc (sized f) (flat_map sized fs) rest) ∙ ap (λ (x : List ℕ). x ++ rest) (sym (flat_map-cons sized f fs)) ∙ e ∙ ap (λ (x : List ℕ). x ++ tail) (flat_map-cons sized g gs) ∙ append_assoc (sized g) (flat_map sized gs) tail in
+    let first = one_frame f g (flat_map sized fs ++ rest) (flat_map sized gs ++ tail) a.0.sayable b.0.sayable e' in
+    let others = first_by least most fs gs rest tail a.1 b.1 t first.1 in
+    let head : f ≡ g = first.0 in
+    let behind : gs ≡ fs ++ others.0 = others.1 in
+    (others.0, cc)
+
+pub first_frames_of_a_cut : (least most : ℕ) (stream : List ℕ) (given frames : List (List ℕ)) (rest tail : List ℕ) → All (IsFrame least most) given → stream ≡ flat_map sized given ++ rest → Cuts least most stream frames tail → (others : List (List ℕ)) × (frames ≡ given ++ others)
+first_frames_of_a_cut least most stream given frames rest tail each whole cut =
+    first_by least most given frames rest tail (recursion_from_All (IsFrame least most) given each) (recursion_from_All (IsFrame least most) frames cut.each) cut.tail_is (sym whole ∙ cut.whole)
+
 -- a frame before a stream that is cut
 one_more : (least most : ℕ) (stream frame behind : List ℕ) (frames : List (List ℕ)) (tail : List ℕ) → IsFrame least most frame → stream ≡ sized frame ++ behind → Cuts least most behind frames tail → Cuts least most stream (frame ∷ frames) tail
 one_more least most stream frame behind frames tail f e c =

@@ -1,4 +1,5 @@
 pub mod Fronts
 pub mod Cutting
 pub mod Heads
-pub mod Runs
+pub mod FramerHistory
+pub mod RequestStarts

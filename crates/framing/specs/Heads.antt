@@ -1,11 +1,10 @@
 -- The heads of requests and responses: "Request Header v1" and "Response Header v0".
-use Rattle.std.specs.Prelude.{◌≡◌, ℕ, ◌-◌, ◌<◌, ◌≤◌, ◌⊎◌, ℤ, FitsSigned, List, ◌++◌, length, drop, slice_range, Option, None, Some}
+use Rattle.std.specs.Prelude.{◌≡◌, ℕ, zero, suc, ◌+◌, ◌-◌, ◌≤◌, nat_le, Bool, true, false, ℤ, pos, negsuc, FitsSigned, List, ◌++◌, length, drop, slice_range, Option, None, Some}
 use Rattle.std.specs.Int.{w16, w32}
 use Rattle.wire_types.specs.Numbers.{int16, int32, int16_at}
 use Rattle.wire_types.specs.Strings.{string, IsString}
 use Rattle.framing.specs.declared.request_head.RequestHead.{RequestHead}
 use Rattle.framing.specs.declared.response_head.ResponseHead.{ResponseHead}
-use Rattle.wire_types.specs.Reading.{need, IsBadLength}
 
 -- api_key INT16, api_version INT16, correlation_id INT32
 abbrev pub request_start : ℤ → ℤ → ℤ → List ℕ
@@ -27,9 +26,16 @@ pub record IsRequest (frame : List ℕ) (head : RequestHead) (body : List ℕ) :
   pub starts : Starts frame head.key head.version head.correlation_id (string head.client_id ++ body)
   pub is_string : IsString head.client_id
 
--- what stands behind the start is no STRING: it is too short for one, or has a bad length
-abbrev pub HasBadClientId : List ℕ → Type 0
-HasBadClientId frame = (8 ≤ length frame) × ((length (drop 8 frame) < need 2 (int16_at (drop 8 frame))) ⊎ IsBadLength (int16_at (drop 8 frame)))
+-- whether so many bytes begin with a STRING of this length; the length -1 is null
+abbrev pub fits_string : Option ℤ → ℕ → Bool
+fits_string None bytes = false
+fits_string (Some (pos size)) bytes = nat_le (2 + size) bytes
+fits_string (Some (negsuc zero)) bytes = true
+fits_string (Some (negsuc (suc below))) bytes = false
+
+-- client_id STRING stands behind the start
+abbrev pub has_client_id : List ℕ → Bool
+has_client_id frame = fits_string (int16_at (drop 8 frame)) (length (drop 8 frame))
 
 -- correlation_id INT32
 abbrev pub response_head : ResponseHead → List ℕ

@@ -1,6 +1,6 @@
-ghost use Rattle.std.specs.Prelude.{◌≡◌, ℕ, ◌+◌, ◌<◌, ◌≤◌, ◌^◌, ◌↔◌, ℤ, pos, [], ◌++◌, length, take, drop, Some, IfSome, IfNone, IsOk, IfOk, OnOk, OnErr};
+ghost use Rattle.std.specs.Prelude.{◌≡◌, ℕ, ◌+◌, ◌<◌, ◌≤◌, ◌^◌, ◌↔◌, ℤ, pos, [], ◌++◌, length, take, drop, Some, IfSome, IfNone, MatchBool, IsOk, IfOk, OnOk, OnErr};
 ghost use Rattle.wire_types.specs.Numbers.{int32};
-ghost use Rattle.framing.specs.Frames.{BeginsFrame, IsPartial, bad_size, size_at, outside};
+ghost use Rattle.framing.specs.Frames.{BeginsFrame, IsPartial, IsTail, bad_size, size_at, outside};
 ghost use Rattle.framing.specs.Answers.{TakesFrame, IfFrame, UnlessFrame, IfBadSize};
 
 use crate::next::Next;
@@ -62,6 +62,21 @@ impl Framer {
         ensures { result ≡ length self.now.rest }
     {
         self.rest.len() as u64
+    }
+
+    /// Whether a whole frame within the limits comes next. Else the rest is a tail of the stream so far. It takes
+    /// no memory.
+    pub fn has_frame(&self) -> bool
+        ensures { MatchBool result (BeginsFrame self.now.least self.now.most self.now.rest)
+            (IsTail self.now.least self.now.most self.now.rest) }
+    {
+        let Some(size) = self.size() else {
+            return false;
+        };
+        let Some(length) = self.allowed(size) else {
+            return false;
+        };
+        SIZE + length <= self.rest.len()
     }
 
     /// Takes the next piece of the stream.

@@ -5,7 +5,7 @@ ghost use Rattle.std.specs.List.{flat_map};
 ghost use Rattle.framing.specs.Frames.{sized, IsFrame, BeginsFrame, IsTail, bad_size};
 ghost use Rattle.framing.specs.Cuts.{Cuts};
 ghost use Rattle.framing.specs.Feed.{Feed};
-ghost use Rattle.framing.specs.Runs.{Event, Runs, opening, stream, given};
+ghost use Rattle.framing.specs.FramerHistory.{FramerEvent, IsFramerHistory, fresh_feed, stream, given};
 
 /// A stream is cut in one way.
 pub fn one_cut()
@@ -13,6 +13,15 @@ pub fn one_cut()
         (frames others : List (List ℕ)) (tail rest : List ℕ)
         → Cuts least most stream frames tail → Cuts least most stream others rest
         → (frames ≡ others) × (tail ≡ rest) }
+{}
+
+/// Frames that stand at the front of a stream are the first of its cut.
+pub fn first_frames_of_a_cut()
+    ensures { (least most : ℕ) (stream : List ℕ)
+        (given frames : List (List ℕ)) (rest tail : List ℕ)
+        → All (IsFrame least most) given → stream ≡ flat_map sized given ++ rest
+        → Cuts least most stream frames tail
+        → (others : List (List ℕ)) × (frames ≡ given ++ others) }
 {}
 
 /// The cut of a stream is that of its pieces, wherever they end.
@@ -46,16 +55,16 @@ pub fn bad_size_stays()
 /// However a stream was fed and whenever frames were asked for: they are the frames of its cut so
 /// far, and once no whole frame is left they are all of them.
 pub fn frames_of_a_run()
-    ensures place { (least most : ℕ) (events : List Event) (end : Feed)
-        → Runs (opening least most) events end
+    ensures place { (least most : ℕ) (events : List FramerEvent) (end : Feed)
+        → IsFramerHistory (fresh_feed least most) events end
         → end.at ≡ length (flat_map sized (given events)) }
-    ensures so_far { (least most : ℕ) (events : List Event) (end : Feed)
-        → Runs (opening least most) events end
+    ensures so_far { (least most : ℕ) (events : List FramerEvent) (end : Feed)
+        → IsFramerHistory (fresh_feed least most) events end
         → stream events ≡ flat_map sized (given events) ++ end.rest }
-    ensures each { (least most : ℕ) (events : List Event) (end : Feed)
-        → Runs (opening least most) events end
+    ensures each { (least most : ℕ) (events : List FramerEvent) (end : Feed)
+        → IsFramerHistory (fresh_feed least most) events end
         → All (IsFrame least most) (given events) }
-    ensures all { (least most : ℕ) (events : List Event) (end : Feed)
-        → Runs (opening least most) events end → IsTail least most end.rest
+    ensures all { (least most : ℕ) (events : List FramerEvent) (end : Feed)
+        → IsFramerHistory (fresh_feed least most) events end → IsTail least most end.rest
         → Cuts least most (stream events) (given events) end.rest }
 {}

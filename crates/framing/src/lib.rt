@@ -22,10 +22,11 @@ mod response_head;
 pub use framer::Framer;
 pub use head_fault::HeadFault;
 pub use laws::{
-    bad_size_stays, cut_in_pieces, each_stream_has_a_cut, frame_or_tail, frames_of_a_run, one_cut,
+    bad_size_stays, cut_in_pieces, each_stream_has_a_cut, first_frames_of_a_cut, frame_or_tail,
+    frames_of_a_run, one_cut,
 };
 pub use next::Next;
-pub use request_head::{RequestHead, start};
+pub use request_head::{RequestHead, has_client_id, start};
 pub use response_head::ResponseHead;
 
 #[cfg(test)]

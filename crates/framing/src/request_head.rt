@@ -1,7 +1,8 @@
-ghost use Rattle.std.specs.Prelude.{◌≡◌, ℕ, ◌<◌, ◌↔◌, ℤ, List, ◌++◌, length, drop, IsNone, IfSome, MatchResult, IsErr, IsErrOf, IfOk, OnOk, OnErr};
+ghost use Rattle.std.specs.Prelude.{◌≡◌, ℕ, ◌<◌, ◌≤◌, false, ◌↔◌, ℤ, List, ◌++◌, length, drop, IsNone, IfSome, MatchResult, IsErr, IsErrOf, IfOk, OnOk, OnErr};
 ghost use Rattle.std.specs.Option.{option_copied};
 ghost use Rattle.wire_types.specs.Strings.{IsTooLong};
-ghost use Rattle.framing.specs.Heads.{request_head, Starts, IsRequest, HasBadClientId, EndsAt};
+ghost use Rattle.framing.specs.Heads.{request_head, has_client_id, Starts, IsRequest, EndsAt};
+ghost use Rattle.framing.specs.RequestStarts.{request_key, request_version, request_number};
 
 use crate::head_fault::HeadFault;
 use bytes::Bytes;
@@ -31,6 +32,7 @@ pub fn start(frame: &[u8]) -> Option<(i16, i16, i32)>
     ensures spelled_is_read { (key version correlation_id : ℤ) (rest : List ℕ)
         → Starts frame.now key version correlation_id rest
         → result ≡ Some (key, version, correlation_id) }
+    ensures numbers { IfSome result (λ start. start ≡ (request_key frame.now, request_version frame.now, request_number frame.now)) }
     ensures none { IsNone result ↔ (length frame.now < 8) }
 {
     let mut reader = Reader::new(frame);
@@ -38,6 +40,14 @@ pub fn start(frame: &[u8]) -> Option<(i16, i16, i32)>
     let version = reader.i16().ok()?;
     let correlation_id = reader.i32().ok()?;
     Some((key, version, correlation_id))
+}
+
+/// Whether client_id STRING stands behind the start of a request's frame.
+pub fn has_client_id(frame: &[u8]) -> bool
+    requires { 8 ≤ length frame.now }
+    ensures { result ≡ has_client_id frame.now }
+{
+    Reader::new(frame.split_at(START).1).string().is_ok()
 }
 
 impl RequestHead {
@@ -50,7 +60,8 @@ impl RequestHead {
             → MatchResult result (λ read. (read.0 ≡ head) × (read.1 ≡ body))
             (λ fault. fault ≡ HeadFault.NoMemory) }
         ensures short { IsErrOf result HeadFault.Short ↔ (length frame.now < 8) }
-        ensures bad_client_id { IsErrOf result HeadFault.BadClientId ↔ HasBadClientId frame.now }
+        ensures bad_client_id { IsErrOf result HeadFault.BadClientId → (8 ≤ length frame.now) × (has_client_id frame.now ≡ false) }
+        ensures client_id { 8 ≤ length frame.now → has_client_id frame.now ≡ false → IsErrOf result HeadFault.BadClientId }
     {
         let Some((key, version, correlation_id)) = start(frame.as_slice()) else {
             return Err(HeadFault::Short);

@@ -117,7 +117,7 @@ fn says_what_comes_next(rt: HostRuntime) -> Result<(), Fail> {
                 let next = framer.next().ok().ok_or("memory")?;
                 assert!(rt; is_said(&next, said), "{next:?}");
             }
-            assert_eq!(rt; framer.rest(), step.rest);
+            assert_eq!(rt; framer.rest(), step.rest, "behind {:?}", step.piece);
         }
     }
     Ok(())
@@ -159,19 +159,77 @@ fn gives_the_same_frames_byte_by_byte(rt: HostRuntime) -> Result<(), Fail> {
     Ok(())
 }
 
-#[test]
-fn gives_a_large_frame(rt: HostRuntime) -> Result<(), Fail> {
-    let large = vec![in rt.alloc(); 7; 70000]?;
-    let mut framer = Framer::new(rt.alloc(), 8, 104857600);
-    framer.feed(&70000u32.to_be_bytes()).ok().ok_or("memory")?;
-    framer.feed(large.as_slice()).ok().ok_or("memory")?;
-    match framer.next().ok().ok_or("memory")? {
-        Next::Frame(frame) => assert_eq!(rt; frame.as_slice(), large.as_slice()),
-        other => assert!(rt; false, "{other:?}"),
+// Sizes of frames and of the pieces that they come in: the least, odd and great ones.
+const AMPLE: [(usize, usize); 7] = [
+    (8, 1),
+    (9, 4),
+    (4_097, 4_097),
+    (65_536, 65_535),
+    (70_000, 1_000),
+    (1_048_577, 1_048_576),
+    (3_145_729, 70_001),
+];
+
+// Feeds a frame of these bytes in pieces of this size, its own size in front.
+fn feed_frame(framer: &mut Framer, bytes: &[u8], piece: usize) -> Result<(), NoMemory> {
+    framer.feed(&(bytes.len() as u32).to_be_bytes())?;
+    for part in bytes.chunks(piece.max(1)) {
+        framer.feed(part)?;
     }
-    assert_eq!(rt; framer.rest(), 0);
+    Ok(())
+}
+
+// Memory suffices for frames and pieces of any size.
+#[test]
+fn gives_frames_of_any_size(rt: HostRuntime) -> Result<(), Fail> {
+    let mut framer = Framer::new(rt.alloc(), 8, 104857600);
+    for (size, piece) in AMPLE {
+        let bytes = vec![in rt.alloc(); 7; size]?;
+        feed_frame(&mut framer, bytes.as_slice(), piece)
+            .ok()
+            .ok_or("memory")?;
+        assert_eq!(rt; framer.rest(), size as u64 + 4, "size {size}");
+        match framer.next().ok().ok_or("memory")? {
+            Next::Frame(frame) => assert!(rt; frame.as_slice() == bytes.as_slice(), "size {size}"),
+            other => assert!(rt; false, "size {size}: {other:?}"),
+        }
+        assert_eq!(rt; framer.rest(), 0, "size {size}");
+    }
     framer.feed(&[0, 0, 0]).ok().ok_or("memory")?;
     assert_eq!(rt; framer.rest(), 3);
+    Ok(())
+}
+
+// Heads are read in front of bodies of any size.
+#[test]
+fn reads_heads_of_any_body(rt: HostRuntime) -> Result<(), Fail> {
+    for (size, _) in AMPLE {
+        let body = vec![in rt.alloc(); 7; size]?;
+        let mut request = Vec::new(rt.alloc());
+        request.extend_from_slice(&[0, 12, 0, 0, 0, 0, 0, 9, 0, 1, b'c'])?;
+        request.extend_from_slice(body.as_slice())?;
+        let frame = Bytes::from_vec(request)?;
+        let (head, rest) = RequestHead::read(&frame).ok().ok_or("a head")?;
+        assert_eq!(rt;
+            (head.key, head.version, head.correlation_id),
+            (12, 0, 9),
+            "size {size}"
+        );
+        assert_eq!(rt;
+            head.client_id,
+            Some(Bytes::from_static(b"c")),
+            "size {size}"
+        );
+        assert!(rt; rest.as_slice() == body.as_slice(), "size {size}");
+        let mut response = Vec::new(rt.alloc());
+        response.extend_from_slice(&[0, 0, 0, 9])?;
+        response.extend_from_slice(body.as_slice())?;
+        let frame = Bytes::from_vec(response)?;
+        let read = ResponseHead::read(&frame).ok().ok_or("memory")?;
+        let (head, rest) = read.ok_or("a head")?;
+        assert_eq!(rt; head.correlation_id, 9, "size {size}");
+        assert!(rt; rest.as_slice() == body.as_slice(), "size {size}");
+    }
     Ok(())
 }
 

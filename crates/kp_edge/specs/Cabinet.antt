@@ -1,6 +1,7 @@
 use Rattle.std.specs.Prelude.{◌≡◌, ℕ, List, [], ◌∷◌, Option, Some, None, if◌then◌else◌, Result, Ok, Err, Contains, ◌⊎◌}
 use Rattle.std.specs.Str.{bytes_eq}
 use Rattle.kp_edge.specs.Counts.{raised}
+use Rattle.kp_edge.specs.Files.{Content, Absent, Holds}
 use Rattle.kp_edge.specs.declared.files.FileFault.{FileFault}
 use Rattle.kp_edge.specs.declared.files.FileFault.TheVariants.{Failed, NoMemory}
 
@@ -20,9 +21,14 @@ abbrev pub file_of : List (List ℕ × List ℕ) → List ℕ → Option (List �
 file_of [] name = None
 file_of (file ∷ files) name = if bytes_eq file.0 name then Some file.1 else file_of files name
 
+-- the same, as files tell it
+abbrev pub content_of : Option (List ℕ) → Content
+content_of None = Absent
+content_of (Some bytes) = Holds bytes
+
 -- a read fails where its number is listed or no file has that name
-abbrev pub Misses : Cabinet → List ℕ → Type 0
-Misses cabinet name = Contains cabinet.failing cabinet.number ⊎ (file_of cabinet.files name ≡ None)
+abbrev pub IsUnreadable : Cabinet → List ℕ → Type 0
+IsUnreadable cabinet name = Contains cabinet.failing cabinet.number ⊎ (file_of cabinet.files name ≡ None)
 
 -- the files after a read: it is counted, and so is its failure
 abbrev pub after_reading : Cabinet → Result (List ℕ) FileFault → Cabinet

@@ -1,7 +1,12 @@
+pub mod Adapter
 pub mod Cabinet
 pub mod Counts
 pub mod End
-pub mod Feed
+pub mod Files
+pub mod MemoryInput
 pub mod Outlet
+pub mod ReadCode
+pub mod ReadNotes
 pub mod Source
 pub mod Store
+pub mod Supply

@@ -17,8 +17,8 @@ pub record Outlet : Type 0 where
   pub faults : ℕ
 
 -- a write fails where its number is listed, and where there are bytes to take and the room is used up
-abbrev pub Refuses : Outlet → List ℕ → Type 0
-Refuses outlet piece = Contains outlet.failing outlet.number ⊎ ((outlet.room ≡ 0) × (0 < length piece))
+abbrev pub IsFailingWrite : Outlet → List ℕ → Type 0
+IsFailingWrite outlet piece = Contains outlet.failing outlet.number ⊎ ((outlet.room ≡ 0) × (0 < length piece))
 
 -- how many bytes of the piece the next write takes
 abbrev pub share : Outlet → List ℕ → ℕ

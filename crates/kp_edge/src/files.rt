@@ -1,5 +1,6 @@
-ghost use Rattle.std.specs.Prelude.{◌≡◌, ◌≤◌, ℕ, List, Option, length, take, IfOk, IfSome, IsErrOf};
-ghost use Rattle.kp_edge.specs.Counts.{Rose};
+ghost use Rattle.std.specs.Prelude.{◌≡◌, ◌≤◌, ℕ, List, length, IfOk, IsErrOf};
+ghost use Rattle.kp_edge.specs.Counts.{Counted};
+ghost use Rattle.kp_edge.specs.Files.{Content, IsFrontOf};
 
 use crate::{Blob, NoMemory};
 use std::alloc::{AllocError, AllocFailed, Global};
@@ -14,19 +15,19 @@ pub enum FileFault {
 
 /// Files by their names.
 pub trait Files {
-    /// The bytes of the file of a name, where the object tells them.
-    ghost content: { Self → List ℕ → Option (List ℕ) };
+    /// What the file of a name holds, or that there is none of that name, where the object tells it.
+    ghost content: { Self → List ℕ → Content };
 
     /// How many reads failed.
     ghost faults: { Self → ℕ };
 
-    /// The first `most` bytes of the file, or all where it has fewer.
+    /// The first `most` bytes of the file, or all where it has fewer. It may wait for the machine. Want of
+    /// memory is no failure of the files and isn't counted.
     fn read(&mut self, alloc: Global, name: &[u8], most: usize) -> Result<Blob, FileFault>
-        ensures bytes { IfOk result (λ blob. IfSome (content self.old name.now) (λ xs. blob ≡ take most xs)) }
+        ensures bytes { IfOk result (λ blob. IsFrontOf (content self.old name.now) most blob) }
         ensures bound { IfOk result (λ blob. length blob ≤ most) }
         ensures kept { (n : List ℕ) → content self.new n ≡ content self.old n }
-        ensures later { faults self.old ≤ faults self.new }
-        ensures cause { IsErrOf result FileFault.Failed → Rose (faults self.old) (faults self.new) };
+        ensures cause { Counted (IsErrOf result FileFault.Failed) (faults self.old) (faults self.new) };
 }
 
 impl From<NoMemory> for FileFault {

@@ -1,5 +1,6 @@
-ghost use Rattle.std.specs.Prelude.{◌≡◌, ◌≤◌, None, Err, length, IfOk, IsErrOf, IsUtf8, vec_len};
-ghost use Rattle.kp_edge.specs.Counts.{Rose};
+ghost use Rattle.std.specs.Prelude.{◌≡◌, ◌≤◌, Err, length, IfOk, IsErrOf, IsUtf8, vec_len};
+ghost use Rattle.kp_edge.specs.Counts.{Counted};
+ghost use Rattle.kp_edge.specs.Files.{Untold};
 
 use crate::{Blob, FileFault, Files, NoMemory, raise};
 use std::alloc::Global;
@@ -70,7 +71,7 @@ fn fault_of(error: Error) -> FileFault {
 }
 
 impl<R: std::rt::Files + Clone + Drop> Files for HostFiles<R> {
-    ghost content = { λ _ _. None };
+    ghost content = { λ _ _. Untold };
 
     ghost faults = { λ f. f };
 
@@ -79,8 +80,7 @@ impl<R: std::rt::Files + Clone + Drop> Files for HostFiles<R> {
 
         // as of all files
         ensures bound { IfOk result (λ blob. length blob ≤ most) }
-        ensures later { self.old ≤ self.new }
-        ensures cause { IsErrOf result FileFault.Failed → Rose self.old self.new }
+        ensures cause { Counted (IsErrOf result FileFault.Failed) self.old self.new }
     {
         match read_front(&self.rt, alloc, name, most) {
             Ok(bytes) => Ok(Blob::from_vec(bytes)),

@@ -3,13 +3,14 @@
 //! ```text
 //!   Source --read-->  the proxy  --write--> Sink          Files --read--> a Blob
 //!      |                                      |              |
-//!    left, faults                        taken, faults     content, faults
+//!    coming, reads, ended, faults        taken, faults     content, faults
 //! ```
 //!
-//! Each trait has a count of faults, and a call answers a failure only where that count rose in the
-//! call: whoever reports a fault of the outside can point at the object that had it. What a source has
-//! left, what a sink took and what stands in a file are told where the object knows them. Objects in
-//! memory do, and the adapters to the machine don't.
+//! Each trait has a count of faults. A call that fails raises it, and a call that doesn't fail leaves it, so
+//! whoever reports a fault of the outside can point at the object that had it. A source gives its end once
+//! and for all. What is still to come from a source, what its reads came to, what a sink took and what a
+//! file holds are told where the object knows them. Objects in memory do, and the adapters to the machine
+//! don't.
 //!
 //! Why a connection ended is an [`End`]. [`Steps`] counts what a contract bounds. What the bytes mean
 //! is left alone here.
@@ -25,6 +26,7 @@ mod mem_files;
 mod mem_sink;
 mod mem_source;
 mod no_memory;
+mod read_log;
 mod sink;
 mod source;
 mod std_in;
@@ -35,6 +37,7 @@ mod sure_source;
 #[cfg(test)]
 mod tests;
 mod ticks;
+mod unread;
 
 pub use blob::Blob;
 pub use counts::raise;
@@ -46,6 +49,7 @@ pub use mem_files::MemFiles;
 pub use mem_sink::MemSink;
 pub use mem_source::MemSource;
 pub use no_memory::NoMemory;
+pub use read_log::ReadLog;
 pub use sink::Sink;
 pub use source::Source;
 pub use std_in::StdIn;

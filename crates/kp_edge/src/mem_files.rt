@@ -1,6 +1,7 @@
-ghost use Rattle.std.specs.Prelude.{◌≡◌, ◌≤◌, ◌↔◌, ℕ, List, Some, length, take, option_copied, option_map, IfOk, IfSome, IsErrOf};
-ghost use Rattle.kp_edge.specs.Counts.{Rose};
-ghost use Rattle.kp_edge.specs.Cabinet.{file_of, Misses, after_reading};
+ghost use Rattle.std.specs.Prelude.{◌≡◌, ◌≤◌, ◌↔◌, ℕ, List, Some, length, take, option_copied, option_map, IfOk, IsErrOf};
+ghost use Rattle.kp_edge.specs.Counts.{Counted};
+ghost use Rattle.kp_edge.specs.Files.{IsFrontOf};
+ghost use Rattle.kp_edge.specs.Cabinet.{content_of, file_of, IsUnreadable, after_reading};
 
 use crate::{Blob, FileFault, Files, raise};
 use std::alloc::Global;
@@ -63,21 +64,20 @@ fn find<'a>(files: &'a [(Blob, Blob)], name: &[u8]) -> Option<&'a Blob>
 }
 
 impl Files for MemFiles {
-    ghost content = { λ f name. file_of f.files name };
+    ghost content = { λ f name. content_of (file_of f.files name) };
 
     ghost faults = { λ f. f.faults };
 
     fn read(&mut self, alloc: Global, name: &[u8], most: usize) -> Result<Blob, FileFault>
-        ensures fails { IsErrOf result FileFault.Failed ↔ Misses self.old name.now }
+        ensures fails { IsErrOf result FileFault.Failed ↔ IsUnreadable self.old name.now }
         ensures found { IfOk result (λ blob. option_map (take most) (file_of self.old.files name.now) ≡ Some blob) }
         ensures after { self.new ≡ after_reading self.old result }
 
         // as of all files
-        ensures bytes { IfOk result (λ blob. IfSome (file_of self.old.files name.now) (λ xs. blob ≡ take most xs)) }
+        ensures bytes { IfOk result (λ blob. IsFrontOf (content_of (file_of self.old.files name.now)) most blob) }
         ensures bound { IfOk result (λ blob. length blob ≤ most) }
-        ensures kept { (n : List ℕ) → file_of self.new.files n ≡ file_of self.old.files n }
-        ensures later { self.old.faults ≤ self.new.faults }
-        ensures cause { IsErrOf result FileFault.Failed → Rose self.old.faults self.new.faults }
+        ensures kept { (n : List ℕ) → content_of (file_of self.new.files n) ≡ content_of (file_of self.old.files n) }
+        ensures cause { Counted (IsErrOf result FileFault.Failed) self.old.faults self.new.faults }
     {
         let number = self.number;
         self.number = raise(number);

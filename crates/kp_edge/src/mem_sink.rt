@@ -1,6 +1,6 @@
 ghost use Rattle.std.specs.Prelude.{◌≡◌, ◌<◌, ◌≤◌, ◌↔◌, ◌++◌, [], Some, length, take, IsErr, IfOk, OnErr};
 ghost use Rattle.kp_edge.specs.Counts.{HasCause};
-ghost use Rattle.kp_edge.specs.Outlet.{Refuses, share, after_accepting, after_refusing};
+ghost use Rattle.kp_edge.specs.Outlet.{IsFailingWrite, share, after_accepting, after_refusing};
 
 use crate::{Failed, NoMemory, Sink, SureSink, raise};
 use std::alloc::Global;
@@ -74,7 +74,7 @@ impl Sink for MemSink {
     ghost faults = { λ s. s.faults };
 
     fn write(&mut self, piece: &[u8]) -> Result<usize, Failed>
-        ensures fails { IsErr result ↔ Refuses self.old piece.now }
+        ensures fails { IsErr result ↔ IsFailingWrite self.old piece.now }
         ensures count { IfOk result (λ n. n ≡ share self.old piece.now) }
         ensures after { IfOk result (λ n. self.new ≡ after_accepting self.old piece.now n) }
         ensures after_failure { OnErr result (self.new ≡ after_refusing self.old) }
@@ -105,6 +105,6 @@ impl Sink for MemSink {
 
         // as of every sink
         ensures kept { self.new.taken ≡ self.old.taken }
-        ensures later { self.old.faults ≤ self.new.faults }
+        ensures count { self.new.faults ≡ self.old.faults }
     {}
 }

@@ -19,8 +19,8 @@ pub trait Sink {
         ensures failed { OnErr result (taken self.new ≡ taken self.old) }
         ensures cause { HasCause (faults self.old) (faults self.new) result };
 
-    /// Ends the stream towards the peer.
+    /// Ends the stream towards the peer. It has no answer, so it counts no failure.
     fn finish(&mut self)
         ensures kept { taken self.new ≡ taken self.old }
-        ensures later { faults self.old ≤ faults self.new };
+        ensures count { faults self.new ≡ faults self.old };
 }

@@ -86,6 +86,6 @@ impl Sink for SureSink {
 
         // as of every sink
         ensures kept { self.new.taken ≡ self.old.taken }
-        ensures later { self.old.faults ≤ self.new.faults }
+        ensures count { self.new.faults ≡ self.old.faults }
     {}
 }

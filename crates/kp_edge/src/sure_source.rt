@@ -1,67 +1,71 @@
-ghost use Rattle.std.specs.Prelude.{◌≡◌, ◌<◌, ◌≤◌, length, min, take, drop, Some, IsOk, IfOk, IfSome, OnErr};
+ghost use Rattle.std.specs.Prelude.{◌≡◌, ◌<◌, ◌≤◌, ◌++◌, ◌∷◌, ◌==◌, [], false, length, min, drop, Some, IsOk, IfOk, OnErr};
 ghost use Rattle.kp_edge.specs.Counts.{HasCause};
-ghost use Rattle.kp_edge.specs.Source.{Gives};
+ghost use Rattle.kp_edge.specs.Source.{ComesNext, LastingEnd, outcome};
+ghost use Rattle.kp_edge.specs.Supply.{after_supplying};
 
-use crate::{Blob, Failed, Source};
+use crate::unread::Unread;
+use crate::{Blob, Failed, ReadLog, Source};
 use std::marker::Model;
 
-/// A source in memory that never fails. Contracts see it as what is still to come.
+/// A source in memory that never fails.
 #[derive(Debug, Drop)]
 pub struct SureSource {
-    bytes: Blob,
-    at: usize,
+    unread: Unread,
+    ended: bool,
+    log: ReadLog,
 }
 
 impl Model for SureSource {
-    ghost use Rattle.std.specs.Prelude.{List, ℕ, ◌≤◌, length, drop};
+    ghost use Rattle.std.specs.Prelude.{◌≡◌, true, []};
+    ghost use Rattle.kp_edge.specs.Supply.{Supply};
 
-    ghost Value = { List ℕ };
+    ghost Value = { Supply };
 
-    ghost view = { λ s. drop s.at s.bytes };
+    ghost view = { λ s. record { coming = s.unread; ended = s.ended; reads = s.log.outcomes } };
 
-    ghost invariant = { λ s. s.at ≤ length s.bytes };
+    ghost invariant = { λ s. s.ended ≡ true → s.unread ≡ [] };
 }
 
 impl SureSource {
     pub fn new(bytes: Blob) -> SureSource
-        ensures { result ≡ bytes }
+        ensures { result ≡ record { coming = bytes; ended = false; reads = [] } }
     {
-        SureSource { bytes, at: 0 }
-    }
-
-    /// Puts as many of the next bytes at the front of the buffer as fit.
-    pub fn give(&mut self, buf: &mut [u8]) -> usize
-        ensures count { result ≡ min (length buf.old) (length self.old) }
-        ensures front { take result buf.new ≡ take result self.old }
-        ensures rest { drop result buf.new ≡ drop result buf.old }
-        ensures left { self.new ≡ drop result self.old }
-    {
-        let left = &self.bytes.as_slice()[self.at..];
-        let count = left.len().min(buf.len());
-        buf[..count].copy_from_slice(&left[..count]);
-        self.at += count;
-        count
+        SureSource {
+            unread: Unread::new(bytes),
+            ended: false,
+            log: ReadLog::new(),
+        }
     }
 }
 
 impl Source for SureSource {
-    ghost left = { λ s. Some s };
+    ghost coming = { λ s. Some s.coming };
+
+    ghost reads = { λ s. Some s.reads };
+
+    ghost ended = { λ s. s.ended };
 
     ghost faults = { λ _. 0 };
 
     fn read(&mut self, buf: &mut [u8]) -> Result<usize, Failed>
         requires { 0 < length buf.old }
         ensures never_fails { IsOk result }
-        ensures count { IfOk result (λ n. n ≡ min (length buf.old) (length self.old)) }
-        ensures after { IfOk result (λ n. self.new ≡ drop n self.old) }
+        ensures count { IfOk result (λ n. n ≡ min (length buf.old) (length self.old.coming)) }
+        ensures after { IfOk result (λ n. self.new ≡ after_supplying self.old n buf.new) }
         ensures others { IfOk result (λ n. drop n buf.new ≡ drop n buf.old) }
 
         // as of every source
         ensures bound { IfOk result (λ n. n ≤ length buf.new) }
-        ensures bytes { IfOk result (λ n. Gives n self.old (Some self.new) buf.new) }
-        ensures failed { OnErr result (self.new ≡ self.old) }
+        ensures bytes { IfOk result (λ n. ComesNext n self.old.coming (Some self.new.coming) buf.new) }
+        ensures failed { OnErr result (self.new.coming ≡ self.old.coming) }
+        ensures told { self.new.reads ≡ self.old.reads ++ outcome result buf.new ∷ [] }
+        ensures end { LastingEnd self.old.ended self.new.ended result }
         ensures cause { HasCause 0 0 result }
     {
-        Ok(self.give(buf))
+        let count = self.unread.give(buf);
+        self.ended = count == 0;
+        let read = Ok(count);
+        self.log.note(buf, &read);
+        read
     }
 }

@@ -4,106 +4,8 @@ use super::*;
 use std::alloc::Global;
 use std::process::Abort;
 
-#[test]
-fn ends_are_written_as_the_documents_say(rt: HostRuntime) {
-    let most = u64::MAX;
-    let table = [
-        (End::Ended, "ended"),
-        (End::ClientTorn { rest: 3 }, "client-torn rest=3"),
-        (End::BadSize { at: 0, size: -1 }, "bad-size at=0 size=-1"),
-        (
-            End::BadHead { request: most },
-            "bad-head request=18446744073709551615",
-        ),
-        (
-            End::UnsupportedApi {
-                request: 1,
-                key: 18,
-                version: 3,
-            },
-            "unsupported request=1 key=18 version=3",
-        ),
-        (
-            End::BadBody {
-                request: 2,
-                key: 0,
-                version: 8,
-                at: 40,
-            },
-            "bad-body request=2 key=0 version=8 at=40",
-        ),
-        (
-            End::TooManyEntries { request: 4, at: 7 },
-            "too-many-entries request=4 at=7",
-        ),
-        (End::ClientReadFault, "client-read-fault"),
-        (
-            End::FilterShut {
-                request: 5,
-                filter: 2,
-                code: 65535,
-            },
-            "filter-shut request=5 filter=2 code=65535",
-        ),
-        (
-            End::NodeOutOfRange {
-                request: 6,
-                node: -2147483648,
-            },
-            "node-out-of-range request=6 node=-2147483648",
-        ),
-        (
-            End::NameTooLong {
-                request: 7,
-                length: 32768,
-            },
-            "name-too-long request=7 length=32768",
-        ),
-        (
-            End::GrownPast {
-                request: 8,
-                size: 134217729,
-            },
-            "grown-past request=8 size=134217729",
-        ),
-        (End::AskBudget { request: 9 }, "ask-budget request=9"),
-        (
-            End::BrokerBadBody {
-                request: 10,
-                key: 1,
-                version: -4,
-            },
-            "broker-bad-body request=10 key=1 version=-4",
-        ),
-        (
-            End::AuthorityFault { request: 11 },
-            "authority-fault request=11",
-        ),
-        (End::BrokerEnd { waiting: 0 }, "broker-end waiting=0"),
-        (End::BrokerTorn { rest: 1 }, "broker-torn rest=1"),
-        (
-            End::BrokerBadSize { at: 12, size: 3 },
-            "broker-bad-size at=12 size=3",
-        ),
-        (End::Unasked { found: -7 }, "unasked found=-7"),
-        (
-            End::Mismatch {
-                expected: 8,
-                found: 9,
-            },
-            "mismatch expected=8 found=9",
-        ),
-        (End::BrokerReadFault, "broker-read-fault"),
-        (End::BrokerWriteFault, "broker-write-fault"),
-        (End::ClientWriteFault, "client-write-fault"),
-        (End::ThreadRefused, "thread-refused"),
-        (End::NoMemory, "no-memory"),
-    ];
-    for (end, text) in table {
-        let written = end.to_string(rt.alloc()).expect(&rt, "memory");
-        assert_eq!(rt; written.as_str(), text);
-    }
-}
+mod ample;
+mod ends;
 
 fn blob(rt: &impl Abort, alloc: Global, bytes: &[u8]) -> Blob {
     Blob::copy(alloc, bytes).expect(rt, "memory")
@@ -145,19 +47,19 @@ fn a_source_in_memory_gives_its_pieces(rt: HostRuntime) {
     let failing = vec![in alloc; 2, 6].expect(&rt, "memory");
     let mut source = MemSource::new(blob(&rt, rt.alloc(), b"abcdefghijk"), pieces, failing);
     let table = [
-        Some("ab"),
-        Some("c"),
-        None,
-        Some("defg"),
-        Some("hijk"),
-        Some(""),
-        Some(""),
+        (0, Some("ab")),
+        (1, Some("c")),
+        (2, None),
+        (3, Some("defg")),
+        (4, Some("hijk")),
+        (5, Some("")),
+        (6, Some("")),
     ];
-    for want in table {
+    for (number, want) in table {
         let given = one_read(&rt, rt.alloc(), &mut source, 4);
         assert_eq!(rt;
-            given.as_ref().map(|v| v.as_slice()),
-            want.map(|s| s.as_bytes())
+            (number, given.as_ref().map(|v| v.as_slice())),
+            (number, want.map(|s| s.as_bytes()))
         );
     }
     assert_eq!(rt; source.faults(), 1);
@@ -166,9 +68,18 @@ fn a_source_in_memory_gives_its_pieces(rt: HostRuntime) {
 #[test]
 fn a_sure_source_gives_what_fits(rt: HostRuntime) {
     let mut source = SureSource::new(blob(&rt, rt.alloc(), b"abcde"));
-    for want in ["abc", "de", "", ""] {
-        let given = one_read(&rt, rt.alloc(), &mut source, 3).expect(&rt, "never fails");
-        assert_eq!(rt; given.as_slice(), want.as_bytes());
+    let table = [
+        (0, Some("abc")),
+        (1, Some("de")),
+        (2, Some("")),
+        (3, Some("")),
+    ];
+    for (number, want) in table {
+        let given = one_read(&rt, rt.alloc(), &mut source, 3);
+        assert_eq!(rt;
+            (number, given.as_ref().map(|v| v.as_slice())),
+            (number, want.map(|s| s.as_bytes()))
+        );
     }
 }
 
@@ -176,14 +87,17 @@ fn a_sure_source_gives_what_fits(rt: HostRuntime) {
 fn a_sure_sink_fails_where_its_room_is_used_up(rt: HostRuntime) {
     let mut sink = SureSink::new(rt.alloc(), 5).expect(&rt, "memory");
     let table = [
-        ("abc", Ok(3)),
-        ("", Ok(0)),
-        ("def", Ok(2)),
-        ("g", Err(Failed)),
-        ("", Ok(0)),
+        (0, "abc", Ok(3)),
+        (1, "", Ok(0)),
+        (2, "def", Ok(2)),
+        (3, "g", Err(Failed)),
+        (4, "", Ok(0)),
     ];
-    for (piece, want) in table {
-        assert_eq!(rt; sink.write(piece.as_bytes()), want);
+    for (number, piece, want) in table {
+        assert_eq!(rt;
+            (number, piece, sink.write(piece.as_bytes())),
+            (number, piece, want)
+        );
     }
     sink.finish();
     assert_eq!(rt; sink.bytes(), b"abcde".as_slice());
@@ -196,15 +110,18 @@ fn a_sink_in_memory_fails_where_it_is_told(rt: HostRuntime) {
     let failing = vec![in rt.alloc(); 1].expect(&rt, "memory");
     let mut sink = MemSink::new(rt.alloc(), 2, 5, failing).expect(&rt, "memory");
     let table = [
-        ("abc", Ok(2)),
-        ("cd", Err(Failed)),
-        ("cd", Ok(2)),
-        ("ef", Ok(1)),
-        ("f", Err(Failed)),
-        ("", Ok(0)),
+        (0, "abc", Ok(2)),
+        (1, "cd", Err(Failed)),
+        (2, "cd", Ok(2)),
+        (3, "ef", Ok(1)),
+        (4, "f", Err(Failed)),
+        (5, "", Ok(0)),
     ];
-    for (piece, want) in table {
-        assert_eq!(rt; sink.write(piece.as_bytes()), want);
+    for (number, piece, want) in table {
+        assert_eq!(rt;
+            (number, piece, sink.write(piece.as_bytes())),
+            (number, piece, want)
+        );
     }
     sink.finish();
     assert_eq!(rt; sink.bytes(), b"abcde".as_slice());
@@ -230,19 +147,25 @@ fn files_in_memory_are_found_by_name(rt: HostRuntime) {
     let failing = vec![in alloc; 3].expect(&rt, "memory");
     let mut files = MemFiles::new(files, failing);
     let table = [
-        ("a", 4, Some("firs")),
-        ("a", 9, Some("first")),
-        ("b", 9, Some("")),
-        ("a", 9, None),
-        ("c", 9, None),
-        ("a", 0, Some("")),
+        (0, "a", 4, Ok("firs")),
+        (1, "a", 9, Ok("first")),
+        (2, "b", 9, Ok("")),
+        (3, "a", 9, Err(FileFault::Failed)),
+        (4, "c", 9, Err(FileFault::Failed)),
+        (5, "a", 0, Ok("")),
     ];
-    for (name, most, want) in table {
+    for (number, name, most, want) in table {
         let read = files.read(alloc, name.as_bytes(), most);
-        match read {
-            Ok(bytes) => assert_eq!(rt; Some(bytes.as_slice()), want.map(|s| s.as_bytes())),
-            Err(fault) => assert_eq!(rt; (fault, want), (FileFault::Failed, None)),
-        }
+        assert_eq!(rt;
+            (
+                number,
+                name,
+                read.as_ref()
+                    .map(|blob| blob.as_slice())
+                    .map_err(|fault| *fault)
+            ),
+            (number, name, want.map(|text| text.as_bytes()))
+        );
     }
     assert_eq!(rt; files.faults(), 2);
 }
@@ -252,17 +175,23 @@ fn files_in_memory_are_found_by_name(rt: HostRuntime) {
 fn files_of_the_machine_are_read_to_the_limit(rt: HostRuntime) {
     let mut files = HostFiles::new(&rt).expect(&rt, "memory");
     let table = [
-        (b"/dev/zero".as_slice(), Some(b"\0\0\0".as_slice())),
-        (b"/dev/null".as_slice(), Some(b"".as_slice())),
-        (b"/no/such/file".as_slice(), None),
-        (b"/".as_slice(), None),
-        (b"\xff".as_slice(), None),
+        (b"/dev/zero".as_slice(), Ok(b"\0\0\0".as_slice())),
+        (b"/dev/null".as_slice(), Ok(b"".as_slice())),
+        (b"/no/such/file".as_slice(), Err(FileFault::Failed)),
+        (b"/".as_slice(), Err(FileFault::Failed)),
+        (b"\xff".as_slice(), Err(FileFault::Failed)),
     ];
     for (name, want) in table {
-        match files.read(rt.alloc(), name, 3) {
-            Ok(bytes) => assert_eq!(rt; Some(bytes.as_slice()), want),
-            Err(fault) => assert_eq!(rt; (fault, want), (FileFault::Failed, None)),
-        }
+        let read = files.read(rt.alloc(), name, 3);
+        assert_eq!(rt;
+            (
+                name,
+                read.as_ref()
+                    .map(|blob| blob.as_slice())
+                    .map_err(|fault| *fault)
+            ),
+            (name, want)
+        );
     }
     assert_eq!(rt; files.faults(), 3);
 }

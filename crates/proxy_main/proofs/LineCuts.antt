@@ -9,8 +9,8 @@ use Rattle.std.proofs.lemmas.List.{take_min, take_more}
 use Rattle.std.proofs.lemmas.Bool.{eqb-true, eq-eqb}
 use Rattle.memchr.specs.Find.{IsFirstByte, is_byte}
 use Rattle.std.proofs.Math.Seq.{take-append-add}
-use Rattle.proxy_main.specs.Scripts.{HasNoBreak, Lines, with_last, Says, IsBad, line_limit}
-use Rattle.proxy_main.specs.Run.{Begins}
+use Rattle.proxy_main.specs.Scripts.{HasNoBreak, Lines, with_last, IsLineText, IsBad, line_limit}
+use Rattle.proxy_main.specs.Progress.{Begins}
 use Rattle.proxy_main.proofs.Lists.{append_nil}
 
 abbrev pub joined : List (List ℕ) → List ℕ
@@ -77,7 +77,7 @@ kept_whole (suc n) (x ∷ xs) le = let h : length (take (suc n) xs) ≤ n = omeg
 pub bad_kept : (text : List ℕ) → IsBad (take (line_limit + 1) text) → IsBad text
 bad_kept text bad l says =
     let whole : take (line_limit + 1) text ≡ text = take_within line_limit text says.within in
-    bad l (subst (λ t. Says t l) (sym whole) says)
+    bad l (subst (λ t. IsLineText t l) (sym whole) says)
   where
     take_within : (n : ℕ) (xs : List ℕ) → length xs ≤ n → take (suc n) xs ≡ xs
     take_within n [] le = refl

@@ -1,24 +1,23 @@
--- Lists one behind the other.
-use Rattle.std.proofs.Common.{◌≡◌, Bool, true, false, ◌||◌, List, [], ◌∷◌, ◌++◌, ap, refl}
-use Rattle.std.specs.Prelude.{All}
-use Rattle.std.proofs.lemmas.List.Elements.{All-cons, All-nil, All-head, All-tail}
+-- Small facts of lists and results.
+use Rattle.std.proofs.Common.{◌≡◌, List, [], ◌∷◌, ◌++◌, Result, Ok, Err, ap, refl, subst}
+use Rattle.std.specs.Prelude.{OnOk, IfOk}
 
 pub append_nil : {A : Type 0} (xs : List A) → xs ++ [] ≡ xs
 append_nil [] = refl
 append_nil (x ∷ xs) = ap (λ ys. x ∷ ys) (append_nil xs)
 
-pub or_false : (b : Bool) → (b || false) ≡ b
-or_false true = refl
-or_false false = refl
+pub on_ok : {T E : Type 0} (r : Result T E) (y : T) (P : Type 0) → r ≡ Ok y → OnOk r P → P
+on_ok r y P e h = subst (λ x. OnOk x P) e h
 
-pub or_true : (b : Bool) → (b || true) ≡ true
-or_true true = refl
-or_true false = refl
+pub on_ok_map : {T E : Type 0} (r : Result T E) (P Q : Type 0) → (P → Q) → OnOk r P → OnOk r Q
+on_ok_map (Ok x) P Q f p = f p
+on_ok_map (Err e) P Q f p = tt
 
-pub All-front : {A : Type 0} (P : A → Type 0) (xs ys : List A) → All P (xs ++ ys) → All P xs
-All-front P [] ys all = All-nil P
-All-front P (x ∷ xs) ys all = All-cons P x xs (All-head P x (xs ++ ys) all) (All-front P xs ys (All-tail P x (xs ++ ys) all))
+pub if_ok_map : {T E : Type 0} (r : Result T E) (P Q : T → Type 0) → ((x : T) → P x → Q x) → IfOk r P → IfOk r Q
+if_ok_map (Ok x) P Q f p = f x p
+if_ok_map (Err e) P Q f p = tt
 
-pub All-back : {A : Type 0} (P : A → Type 0) (xs ys : List A) → All P (xs ++ ys) → All P ys
-All-back P [] ys all = all
-All-back P (x ∷ xs) ys all = All-back P xs ys (All-tail P x (xs ++ ys) all)
+-- two facts of an Ok give a third
+pub on_ok_then : {T E : Type 0} (r : Result T E) (P Q R : Type 0) → (P → Q → R) → OnOk r P → OnOk r Q → OnOk r R
+on_ok_then (Ok x) P Q R f p q = f p q
+on_ok_then (Err e) P Q R f p q = tt

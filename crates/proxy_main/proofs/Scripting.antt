@@ -6,7 +6,7 @@ use Rattle.std.proofs.lemmas.List.Elements.{All-append, All-cons, All-nil, All-h
 use Rattle.std.proofs.lemmas.Bool.{eqb-true, le-ltb, lt-ltb}
 use Rattle.std.proofs.Math.Seq.{take-append-add}
 use Rattle.proxy_main.specs.Scripts.{HasNoBreak, Lines, Script, with_last, script_limit}
-use Rattle.proxy_main.specs.Run.{Begins}
+use Rattle.proxy_main.specs.Progress.{Begins}
 use Rattle.proxy_main.proofs.Lists.{append_nil}
 use Rattle.proxy_main.proofs.LineCuts.{joined, begins_longer}
 

@@ -1,11 +1,8 @@
-pub mod Streams
 pub mod Played
 pub mod Scripts
 pub mod Replayed
 pub mod Words
 pub mod Output
-pub mod Stationed
-pub mod Handed
-pub mod Run
-pub mod Runs
+pub mod Progress
+pub mod Written
 pub mod Stops

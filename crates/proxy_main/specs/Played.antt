@@ -1,92 +1,49 @@
 -- What the lines of a script do, and what is answered to each: see docs/SCRIPTS.md.
-use Rattle.std.specs.Prelude.{◌≡◌, ℕ, Bool, true, false, List, [], ◌∷◌, ◌++◌, flat_map, Option, Some, None, Ok, Err, MatchBool}
+use Rattle.std.specs.Prelude.{◌≡◌, ℕ, Bool, true, false, if◌then◌else◌, List, [], ◌∷◌, ◌++◌, flat_map, Option, Some, None, Ok, Err}
 use Rattle.conn_rules.specs.declared.event.Event.{Event}
 use Rattle.conn_rules.specs.declared.event.Event.TheVariants as event
 use Rattle.conn_rules.specs.declared.event.Fault.TheVariants as fault
 use Rattle.conn_rules.specs.declared.event.Reply.{Reply}
 use Rattle.conn_rules.specs.declared.event.Reply.TheVariants as reply
 use Rattle.conn_rules.specs.declared.event.Emit.TheVariants as emit
-use Rattle.conn_rules.specs.declared.event.TakeFault.{TakeFault}
-use Rattle.conn_rules.specs.declared.event.TakeFault.TheVariants as take_fault
-use Rattle.conn_rules.specs.declared.event.AnswerFault.{AnswerFault}
-use Rattle.conn_rules.specs.declared.event.AnswerFault.TheVariants as answer_fault
 use Rattle.conn_rules.specs.declared.event.CompleteFault.{CompleteFault}
 use Rattle.conn_rules.specs.declared.event.CompleteFault.TheVariants as complete_fault
 use Rattle.conn_rules.specs.Meaning.{Meaning}
 use Rattle.conn_rules.specs.State.{State, opening}
-use Rattle.conn_rules.specs.Steps.{Step}
-use Rattle.conn_rules.specs.History.{Entry}
-use Rattle.conn_core.specs.Heads.{heads}
+use Rattle.conn_rules.specs.History.{Entry, LeadsTo}
+use Rattle.session.specs.declared.peer.Peer.{Peer}
+use Rattle.session.specs.declared.peer.Peer.TheVariants as peer
+use Rattle.session.specs.declared.told.Told.{Told}
+use Rattle.session.specs.declared.told.Told.TheVariants as told
+use Rattle.session.specs.Streams.{Stream, fresh_stream}
+use Rattle.session.specs.Pushes.{entry_of, IsPush}
+use Rattle.session.specs.Calls.{Link, IsPiece, IsEnd}
 use Rattle.transcript.specs.declared.line.Line.{Line}
 use Rattle.transcript.specs.declared.line.Line.TheVariants as line
 use Rattle.transcript.specs.declared.answer.Answer.{Answer}
 use Rattle.transcript.specs.declared.answer.Answer.TheVariants as answer
 use Rattle.transcript.specs.Answers.{answer_text}
-use Rattle.proxy_main.specs.Streams.{Stream, fresh, Kind, Piece, Pushes, StreamEnds}
 
--- sixteen requests may be in flight
-abbrev pub most_in_flight : ℕ
-most_in_flight = 16
-
-abbrev pub served : Meaning
-served = heads most_in_flight
-
--- a connection and its two streams
+-- a connection and its two streams, as a script gives them
 pub record Play : Type 0 where
   pub client : Stream
   pub broker : Stream
   pub state : State
 
 abbrev pub opening_play : Play
-opening_play = record { client = fresh; broker = fresh; state = opening }
+opening_play = record { client = fresh_stream peer.Client; broker = fresh_stream peer.Broker; state = opening }
 
--- a client's frame that comes too late, and one that finds no room
-abbrev pub is_ending_fault : TakeFault → Bool
-is_ending_fault (take_fault.Ending frame) = true
-is_ending_fault (take_fault.Full count held frame) = false
-is_ending_fault take_fault.NoMemory = false
+-- the play that a station with these streams stands at
+abbrev pub at_state : {C : Type 0} → Link C → State → Play
+at_state station s = record { client = station.client; broker = station.broker; state = s }
 
-abbrev pub is_full_fault : TakeFault → Bool
-is_full_fault (take_fault.Ending frame) = false
-is_full_fault (take_fault.Full count held frame) = true
-is_full_fault take_fault.NoMemory = false
+-- what is answered where the station was told something, and for the reply to one event
+abbrev pub told_answer : Told → Answer
+told_answer told.Fine = answer.Fine
+told_answer told.Full = answer.Full
+told_answer told.Closed = answer.Closed
+told_answer told.NotWaiting = answer.NotWaiting
 
-abbrev pub is_take : (TakeFault → Bool) → Reply → Bool
-is_take test (reply.Take (Err e)) = test e
-is_take test (reply.Take (Ok _)) = false
-is_take test (reply.Answer _) = false
-is_take test (reply.Complete _) = false
-is_take test reply.Noted = false
-is_take test (reply.Send _) = false
-is_take test (reply.Emit _) = false
-is_take test (reply.Pick _) = false
-is_take test (reply.Look _) = false
-
--- a broker's frame that comes too late
-abbrev pub is_dead_fault : AnswerFault → Bool
-is_dead_fault (answer_fault.Dead frame) = true
-is_dead_fault answer_fault.NoMemory = false
-
-abbrev pub is_dead_reply : Reply → Bool
-is_dead_reply (reply.Answer (Err e)) = is_dead_fault e
-is_dead_reply (reply.Answer (Ok _)) = false
-is_dead_reply (reply.Take _) = false
-is_dead_reply (reply.Complete _) = false
-is_dead_reply reply.Noted = false
-is_dead_reply (reply.Send _) = false
-is_dead_reply (reply.Emit _) = false
-is_dead_reply (reply.Pick _) = false
-is_dead_reply (reply.Look _) = false
-
--- The client's frames have 8 to 104,857,600 bytes, and each is taken.
-abbrev pub client_kind : Kind
-client_kind = record { least = 8; most = 104857600; frame = event.Take; end = event.ClientEnd; bad = fault.ClientBadSize; refused = is_take is_ending_fault; full = is_take is_full_fault }
-
--- The broker's frames have 4 to 134,217,728 bytes, and each is an answer. There is always room.
-abbrev pub broker_kind : Kind
-broker_kind = record { least = 4; most = 134217728; frame = event.Answer; end = event.BrokerEnd; bad = fault.BrokerBadSize; refused = is_dead_reply; full = λ r. false }
-
--- what is answered for the reply to one event
 abbrev pub complete_answer : CompleteFault → Option Answer
 complete_answer (complete_fault.NotWaiting verdict) = Some answer.NotWaiting
 complete_answer complete_fault.NoMemory = None
@@ -106,72 +63,97 @@ answer_of (reply.Take _) = None
 answer_of (reply.Answer _) = None
 answer_of (reply.Look _) = None
 
--- nothing happens, as the stream has ended before
-pub record IsClosed (p : Play) (a : Answer) (hs : List Entry) (q : Play) : Type 0 where
-  pub answered : a ≡ answer.Closed
-  pub nothing : hs ≡ []
-  pub same : q ≡ p
+-- A piece of a stream, or its end.
+pub record IsPieceLine (before : Stream) (piece : List ℕ) (a : Answer) (hs : List Entry) (after : Stream) : Type 0 where
+  pub told : Told
+  pub is_piece : IsPiece before piece hs (Ok told) after
+  pub answered : a ≡ told_answer told
 
--- a piece of one stream, or its end; the other stays
-pub record ClientPiece (p : Play) (piece : List ℕ) (a : Answer) (hs : List Entry) (q : Play) : Type 0 where
-  pub piece_is : Piece served client_kind p.client piece p.state a hs q.client q.state
-  pub other : q.broker ≡ p.broker
+pub record IsEndLine (before : Stream) (a : Answer) (hs : List Entry) (after : Stream) : Type 0 where
+  pub told : Told
+  pub is_end : IsEnd before hs (Ok told) after
+  pub answered : a ≡ told_answer told
 
-pub record BrokerPiece (p : Play) (piece : List ℕ) (a : Answer) (hs : List Entry) (q : Play) : Type 0 where
-  pub piece_is : Piece served broker_kind p.broker piece p.state a hs q.broker q.state
-  pub other : q.client ≡ p.client
-
-pub record ClientEnds (p : Play) (a : Answer) (hs : List Entry) (q : Play) : Type 0 where
-  pub ends : StreamEnds served client_kind p.client p.state hs q.client q.state
-  pub other : q.broker ≡ p.broker
-  pub answered : a ≡ answer.Fine
-
-pub record BrokerEnds (p : Play) (a : Answer) (hs : List Entry) (q : Play) : Type 0 where
-  pub ends : StreamEnds served broker_kind p.broker p.state hs q.broker q.state
-  pub other : q.client ≡ p.client
-  pub answered : a ≡ answer.Fine
-
--- one event, and its answer
-pub record Asks (e : Event) (p : Play) (a : Answer) (hs : List Entry) (q : Play) : Type 0 where
+-- One event, and the answer to its reply. The streams stay.
+pub record IsEventLine (e : Event) (a : Answer) (hs : List Entry) : Type 0 where
   pub reply : Reply
-  pub step : Step served p.state e reply q.state
-  pub entry : hs ≡ record { actor = 0; event = e; reply = reply } ∷ []
+  pub entry : hs ≡ entry_of e reply ∷ []
   pub answered : answer_of reply ≡ Some a
-  pub client : q.client ≡ p.client
-  pub broker : q.broker ≡ p.broker
+
+abbrev pub StreamsStay : Play → Play → Type 0
+StreamsStay p q = (q.client ≡ p.client) × (q.broker ≡ p.broker)
 
 -- An emit step makes room, so the client's stream is pushed behind it. The answer is that of the step alone.
-pub record Emits (p : Play) (a : Answer) (hs : List Entry) (q : Play) : Type 0 where
-  pub between : Play
+pub record IsEmitLine (before : Stream) (a : Answer) (hs : List Entry) (after : Stream) : Type 0 where
   pub first : List Entry
-  pub asks : Asks event.Emit p a first between
+  pub emits : IsEventLine event.Emit a first
   pub rest : List Entry
-  pub pushes : Pushes served client_kind between.client between.state rest q.client q.state
-  pub other : q.broker ≡ between.broker
+  pub told : Told
+  pub pushes : IsPush before rest (Ok told) after
   pub entries : hs ≡ first ++ rest
 
--- what a line does
-abbrev pub Does : Play → Line → Answer → List Entry → Play → Type 0
-Does p (line.Client piece) a hs q = MatchBool p.client.ended (IsClosed p a hs q) (ClientPiece p piece a hs q)
-Does p (line.Broker piece) a hs q = MatchBool p.broker.ended (IsClosed p a hs q) (BrokerPiece p piece a hs q)
-Does p line.ClientEnd a hs q = MatchBool p.client.ended (IsClosed p a hs q) (ClientEnds p a hs q)
-Does p line.BrokerEnd a hs q = MatchBool p.broker.ended (IsClosed p a hs q) (BrokerEnds p a hs q)
-Does p line.Send a hs q = Asks event.Send p a hs q
-Does p line.Emit a hs q = Emits p a hs q
-Does p line.Pick a hs q = Asks event.Pick p a hs q
-Does p (line.Done k i verdict) a hs q = Asks (event.Complete k i verdict) p a hs q
-Does p line.FaultClientRead a hs q = Asks (event.Fault fault.ClientRead) p a hs q
-Does p line.FaultClientWrite a hs q = Asks (event.Fault fault.ClientWrite) p a hs q
-Does p line.FaultBrokerRead a hs q = Asks (event.Fault fault.BrokerRead) p a hs q
-Does p line.FaultBrokerWrite a hs q = Asks (event.Fault fault.BrokerWrite) p a hs q
-Does p (line.FaultAuthority k) a hs q = Asks (event.Fault (fault.Authority k)) p a hs q
+-- what a line does to the two streams, and the entries that it brings to the connection
+abbrev pub IsPlayed : Play → Line → Answer → List Entry → Play → Type 0
+IsPlayed p (line.Client piece) a hs q = IsPieceLine p.client piece a hs q.client × (q.broker ≡ p.broker)
+IsPlayed p (line.Broker piece) a hs q = IsPieceLine p.broker piece a hs q.broker × (q.client ≡ p.client)
+IsPlayed p line.ClientEnd a hs q = IsEndLine p.client a hs q.client × (q.broker ≡ p.broker)
+IsPlayed p line.BrokerEnd a hs q = IsEndLine p.broker a hs q.broker × (q.client ≡ p.client)
+IsPlayed p line.Send a hs q = IsEventLine event.Send a hs × StreamsStay p q
+IsPlayed p line.Emit a hs q = IsEmitLine p.client a hs q.client × (q.broker ≡ p.broker)
+IsPlayed p line.Pick a hs q = IsEventLine event.Pick a hs × StreamsStay p q
+IsPlayed p (line.Done k i verdict) a hs q = IsEventLine (event.Complete k i verdict) a hs × StreamsStay p q
+IsPlayed p line.FaultClientRead a hs q = IsEventLine (event.Fault fault.ClientRead) a hs × StreamsStay p q
+IsPlayed p line.FaultClientWrite a hs q = IsEventLine (event.Fault fault.ClientWrite) a hs × StreamsStay p q
+IsPlayed p line.FaultBrokerRead a hs q = IsEventLine (event.Fault fault.BrokerRead) a hs × StreamsStay p q
+IsPlayed p line.FaultBrokerWrite a hs q = IsEventLine (event.Fault fault.BrokerWrite) a hs × StreamsStay p q
+IsPlayed p (line.FaultAuthority k) a hs q = IsEventLine (event.Fault (fault.Authority k)) a hs × StreamsStay p q
 
--- The lines are answered one after another.
-abbrev pub Plays : Play → List Line → List Answer → List Entry → Play → Type 0
-Plays p [] [] hs q = (hs ≡ []) × (q ≡ p)
-Plays p [] (a ∷ answers) hs q = ⊥
-Plays p (l ∷ ls) [] hs q = ⊥
-Plays p (l ∷ ls) (a ∷ answers) hs q = (first rest : List Entry) × (between : Play) × Does p l a first between × Plays between ls answers rest q × (hs ≡ first ++ rest)
+-- The lines are answered one after another, and the connection goes as its rules say.
+abbrev pub ArePlayed : Meaning → Play → List Line → List Answer → List Entry → Play → Type 0
+ArePlayed M p [] [] hs q = (hs ≡ []) × (q ≡ p)
+ArePlayed M p [] (a ∷ answers) hs q = ⊥
+ArePlayed M p (l ∷ ls) [] hs q = ⊥
+ArePlayed M p (l ∷ ls) (a ∷ answers) hs q =
+    (first rest : List Entry) × (between : Play) × IsPlayed p l a first between × LeadsTo M p.state first between.state × ArePlayed M between ls answers rest q × (hs ≡ first ++ rest)
+
+-- All bytes of a peer's stream that the lines bring, up to its end.
+abbrev pub piece_of : Line → Peer → List ℕ
+piece_of (line.Client piece) peer.Client = piece
+piece_of (line.Broker piece) peer.Client = []
+piece_of (line.Client piece) peer.Broker = []
+piece_of (line.Broker piece) peer.Broker = piece
+piece_of line.ClientEnd p = []
+piece_of line.BrokerEnd p = []
+piece_of line.Send p = []
+piece_of line.Emit p = []
+piece_of line.Pick p = []
+piece_of (line.Done k i verdict) p = []
+piece_of line.FaultClientRead p = []
+piece_of line.FaultClientWrite p = []
+piece_of line.FaultBrokerRead p = []
+piece_of line.FaultBrokerWrite p = []
+piece_of (line.FaultAuthority k) p = []
+
+abbrev pub is_end_of : Line → Peer → Bool
+is_end_of line.ClientEnd peer.Client = true
+is_end_of line.BrokerEnd peer.Client = false
+is_end_of line.ClientEnd peer.Broker = false
+is_end_of line.BrokerEnd peer.Broker = true
+is_end_of (line.Client piece) p = false
+is_end_of (line.Broker piece) p = false
+is_end_of line.Send p = false
+is_end_of line.Emit p = false
+is_end_of line.Pick p = false
+is_end_of (line.Done k i verdict) p = false
+is_end_of line.FaultClientRead p = false
+is_end_of line.FaultClientWrite p = false
+is_end_of line.FaultBrokerRead p = false
+is_end_of line.FaultBrokerWrite p = false
+is_end_of (line.FaultAuthority k) p = false
+
+abbrev pub stream_in : Peer → List Line → List ℕ
+stream_in p [] = []
+stream_in p (l ∷ ls) = if is_end_of l p then [] else (piece_of l p ++ stream_in p ls)
 
 -- what the answers are as text: a line each
 abbrev pub printed : List Answer → List ℕ

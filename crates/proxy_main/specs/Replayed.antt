@@ -1,85 +1,101 @@
 -- What `replay` makes of a script: the text that it writes, by its status.
-use Rattle.std.specs.Prelude.{◌≡◌, ℕ, ◌+◌, ◌<◌, ◌≤◌, List, ◌∷◌, ◌++◌, flat_map, length, Option, ◌⊎◌}
-use Rattle.conn_rules.specs.History.{Entry, IsHistory, out, replies}
+use Rattle.std.specs.Prelude.{◌≡◌, ℕ, ◌+◌, ◌<◌, ◌≤◌, List, ◌∷◌, ◌++◌, flat_map, map, length, Option, ◌⊎◌}
+use Rattle.conn_rules.specs.History.{Entry, IsHistory, out, IsInOrder, AreFirst}
+use Rattle.conn_rules.specs.Meaning.{Meaning}
+use Rattle.framing.specs.Cuts.{Cuts}
+use Rattle.session.specs.declared.peer.Peer.TheVariants as peer
+use Rattle.session.specs.Streams.{IsStreamOf}
+use Rattle.session.specs.Peers.{least_size, most_size}
 use Rattle.transcript.specs.declared.line.Line.{Line}
 use Rattle.transcript.specs.declared.answer.Answer.{Answer}
-use Rattle.proxy_main.specs.Played.{Play, opening_play, served, Plays, printed, shown_to_client}
-use Rattle.proxy_main.specs.Scripts.{Script, Say, IsBad, script_limit, bad_line_text, too_long_text}
+use Rattle.proxy_main.specs.Played.{Play, opening_play, ArePlayed, stream_in, printed, shown_to_client}
+use Rattle.proxy_main.specs.Scripts.{Script, AreLineTexts, IsBad, ReadSoFar, as_text, script_limit, piece_limit, bad_line_text, too_long_text}
 use Rattle.proxy_main.specs.Output.{Appends, AppendsFront}
 use Rattle.proxy_main.specs.Words.{usage}
 use Rattle.proxy_main.specs.declared.status.Status.{Status}
 use Rattle.proxy_main.specs.declared.status.Status.TheVariants as status
 
--- These lines were answered, and this is the text. What the client was sent are the responses to the
--- requests that were passed, in order.
-pub record Answered (lines : List (List ℕ)) (text : List ℕ) : Type 0 where
-  pub says : List Line
+-- The requests are the first frames of the client's stream, however it came in pieces.
+abbrev pub AreFirstOfStream : List (List ℕ) → List ℕ → Type 0
+AreFirstOfStream requests bytes =
+    (frames : List (List ℕ)) (tail : List ℕ) → Cuts (least_size peer.Client) (most_size peer.Client) bytes frames tail → AreFirst requests frames
+
+-- These lines were answered, and this is the text. The frames that were handed on are the first of each peer's stream.
+-- What the client was sent is the responses to its passed requests, in order, each under its own correlation id.
+pub record Answered (M : Meaning) (lines : List (List ℕ)) (text : List ℕ) : Type 0 where
+  pub script : List Line
   pub answers : List Answer
   pub history : List Entry
   pub last : Play
-  pub read : Say lines says
-  pub plays : Plays opening_play says answers history last
+  pub texts : AreLineTexts lines script
+  pub played : ArePlayed M opening_play script answers history last
   pub text_is : text ≡ printed answers
-  pub is_history : IsHistory served history last.state
-  pub sent : flat_map shown_to_client answers ≡ out history
-  pub in_order : out history ≡ replies served last.state
+  pub is_history : IsHistory M history last.state
+  pub client : IsStreamOf (stream_in peer.Client script) history last.client
+  pub broker : IsStreamOf (stream_in peer.Broker script) history last.broker
+  pub shown : flat_map shown_to_client answers ≡ out history
+  pub in_order : IsInOrder M history last.state
+  pub own_requests : AreFirstOfStream (map (λ r. r.frame) last.state.requests) (stream_in peer.Client script)
 
 -- the script as a whole was answered
-pub record Whole (script text : List ℕ) : Type 0 where
+pub record Whole (M : Meaning) (script text : List ℕ) : Type 0 where
   pub lines : List (List ℕ)
   pub script_is : Script script lines
   pub within : length script ≤ script_limit
-  pub answered : Answered lines text
+  pub answered : Answered M lines text
 
 -- the lines of a front of it were
-pub record Front (script text : List ℕ) : Type 0 where
+pub record Front (M : Meaning) (script text : List ℕ) : Type 0 where
   pub lines : List (List ℕ)
   pub others : List (List ℕ)
   pub script_is : Script script (lines ++ others)
-  pub answered : Answered lines text
+  pub answered : Answered M lines text
 
--- the lines before the first that says nothing were, and it is named by its number
-pub record BadLine (script text : List ℕ) : Type 0 where
+-- The lines before the first that is no line were, and it is named by its number. Nothing was read after the
+-- piece in which it ended.
+pub record BadLine (M : Meaning) (script : List ℕ) (left : Option (List ℕ)) (text : List ℕ) : Type 0 where
   pub lines : List (List ℕ)
   pub bad : List ℕ
   pub others : List (List ℕ)
   pub script_is : Script script (lines ++ bad ∷ others)
   pub is_bad : IsBad bad
+  pub so_far : ReadSoFar piece_limit script left
+  pub not_ended : length so_far.before ≤ length (as_text lines) + length bad
   pub answers : List ℕ
-  pub answered : Answered lines answers
+  pub answered : Answered M lines answers
   pub text_is : text ≡ answers ++ bad_line_text (length lines + 1)
 
 -- the lines that end within the limit were, and the script is longer
-pub record TooLong (script text : List ℕ) : Type 0 where
+pub record TooLong (M : Meaning) (script text : List ℕ) : Type 0 where
   pub lines : List (List ℕ)
   pub script_is : Script script lines
   pub beyond : script_limit < length script
   pub answers : List ℕ
-  pub answered : Answered lines answers
+  pub answered : Answered M lines answers
   pub text_is : text ≡ answers ++ too_long_text
 
 -- a text that replay could go on from, or end with
-abbrev pub IsTextOf : List ℕ → List ℕ → Type 0
-IsTextOf script text = Front script text ⊎ BadLine script text ⊎ TooLong script text
+abbrev pub IsTextOf : Meaning → List ℕ → Option (List ℕ) → List ℕ → Type 0
+IsTextOf M script left text = Front M script text ⊎ BadLine M script left text ⊎ TooLong M script text
 
 -- written is a front of such a text
-pub record CutShort (script written : List ℕ) : Type 0 where
+pub record CutShort (M : Meaning) (script : List ℕ) (left : Option (List ℕ)) (written : List ℕ) : Type 0 where
   pub text : List ℕ
   pub missing : List ℕ
-  pub text_of : IsTextOf script text
+  pub text_of : IsTextOf M script left text
   pub front : text ≡ written ++ missing
 
--- what was written, by the status
-abbrev pub Replays : List ℕ → List ℕ → Status → Type 0
-Replays script written status.Done = Whole script written
-Replays script written status.Refused = BadLine script written ⊎ TooLong script written
-Replays script written status.Usage = ⊥
-Replays script written status.InputFault = Front script written
-Replays script written status.OutputFault = CutShort script written
-Replays script written status.NoMemory = Front script written
-Replays script written status.FilesFault = ⊥
-Replays script written status.BindFault = ⊥
-Replays script written status.ThreadFault = ⊥
+-- what was written of a script of which this is still to come, by the status
+abbrev pub Replays : Meaning → List ℕ → Option (List ℕ) → List ℕ → Status → Type 0
+Replays M script left written status.Done = Whole M script written
+Replays M script left written status.Refused = BadLine M script left written ⊎ TooLong M script written
+Replays M script left written status.Usage = ⊥
+Replays M script left written status.InputFault = Front M script written
+Replays M script left written status.OutputFault = CutShort M script left written
+Replays M script left written status.NoMemory = Front M script written
+Replays M script left written status.FilesFault = ⊥
+Replays M script left written status.BindFault = ⊥
+Replays M script left written status.ThreadFault = ⊥
 
 -- the statuses that replay ends with
 abbrev pub IsStatusOfReplay : Status → Type 0

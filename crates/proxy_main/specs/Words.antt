@@ -11,6 +11,10 @@ usage = codes "usage: kproxy replay [CONFIG CLUSTER] | check CONFIG | plan CONFI
 abbrev pub IsReplay : List (List ℕ) → Type 0
 IsReplay words = words ≡ codes "replay" ∷ []
 
+-- how many requests may be in flight in `replay`
+abbrev pub most_in_flight : ℕ
+most_in_flight = 16
+
 abbrev pub status_number : Status → ℕ
 status_number Done = 0
 status_number Refused = 1

@@ -1,15 +1,16 @@
 // What is written behind the answers, and the status.
-ghost use Rattle.std.specs.Prelude.{◌≡◌, ◌⊎◌, ◌≤◌, ◌+◌, Ok, Err};
-ghost use Rattle.kp_edge.specs.Counts.{Rose};
+ghost use Rattle.std.specs.Prelude.{◌≡◌, ◌+◌, Ok, IsErrOf};
+ghost use Rattle.kp_edge.specs.Counts.{Counted};
 
 use crate::replay::Replay;
 use crate::status::Status;
 use crate::stop::Stop;
+use conn_rules::Connection;
 use kp_edge::{Failed, Sink};
 
-impl Replay {
+impl<C: Connection> Replay<C> {
     ghost use Rattle.proxy_main.specs.Replayed.{IsStatusOfReplay};
-    ghost use Rattle.proxy_main.specs.Runs.{Concludes, WritesOut, Refuses};
+    ghost use Rattle.proxy_main.specs.Written.{Concludes, WritesOut, Refuses};
     ghost use Rattle.proxy_main.specs.Scripts.{bad_line_text, too_long_text};
 
     // Writes what waits, and behind it why the script was refused, if it was.
@@ -17,9 +18,10 @@ impl Replay {
         ensures concludes { Concludes self.old read (O.taken out.old) (O.taken out.new) result }
         ensures statuses { IsStatusOfReplay result }
         ensures done { result ≡ Status.Done → read ≡ Ok tt }
-        ensures input_fault { result ≡ Status.InputFault → read ≡ Err Stop.Input }
-        ensures output_fault { result ≡ Status.OutputFault → (read ≡ Err Stop.Output) ⊎ Rose (O.faults out.old) (O.faults out.new) }
-        ensures later { O.faults out.old ≤ O.faults out.new }
+        ensures input_fault { IsErrOf read Stop.Input → result ≡ Status.InputFault }
+        ensures only_input { result ≡ Status.InputFault → IsErrOf read Stop.Input }
+        ensures output_fault { IsErrOf read Stop.Output → (result ≡ Status.OutputFault) × (O.faults out.new ≡ O.faults out.old) }
+        ensures faults { ¬ IsErrOf read Stop.Output → Counted (result ≡ Status.OutputFault) (O.faults out.old) (O.faults out.new) }
     {
         match read {
             Ok(()) => self.write_out(Status::Done, out),
@@ -40,8 +42,8 @@ impl Replay {
     // Writes what waits, with this status unless a write fails.
     fn write_out<O: Sink>(&mut self, status: Status, out: &mut O) -> Status
         ensures written { WritesOut self.old.answers status (O.taken out.old) (O.taken out.new) result }
-        ensures output_fault { result ≡ Status.OutputFault → (status ≡ Status.OutputFault) ⊎ Rose (O.faults out.old) (O.faults out.new) }
-        ensures later { O.faults out.old ≤ O.faults out.new }
+        ensures not_input { result ≡ Status.InputFault → status ≡ Status.InputFault }
+        ensures faults { ¬ (status ≡ Status.OutputFault) → Counted (result ≡ Status.OutputFault) (O.faults out.old) (O.faults out.new) }
     {
         match self.flush(out) {
             Ok(()) => status,

@@ -1,7 +1,7 @@
 //! The top calls of kproxy: what the program does with its words, over streams and files that are handed in.
 //!
 //! ```text
-//!   input --lines--> Replay --pieces--> Station: two framers and a core --> answers --text--> out
+//!   input --lines--> Replay --pieces--> Station over a connection --> answers --text--> out
 //! ```
 //!
 //! It reads no file and no stream by itself: `main` hands them in, and so does a test.
@@ -9,13 +9,12 @@
 
 mod command;
 mod conclude;
-mod frames;
 mod lines;
 mod output;
+mod perform;
 mod replay;
 mod run;
-mod side;
-mod station;
+mod script;
 mod status;
 mod stop;
 #[cfg(test)]

@@ -1,7 +1,7 @@
-// One line of a script: what it says, and its answer as text.
-ghost use Rattle.std.specs.Prelude.{◌≡◌, ◌++◌, [], ◌∷◌, length, take, true, false, IfOk, OnOk, OnErr, IsErrOf};
+// One line of a script as text, and its answer as text.
+ghost use Rattle.std.specs.Prelude.{◌≡◌, ◌≤◌, ◌++◌, [], ◌∷◌, length, take, true, false, IfOk, OnOk, OnErr, IsErrOf};
 ghost use Rattle.transcript.specs.Answers.{answer_text};
-ghost use Rattle.proxy_main.specs.Scripts.{Says, IsBad};
+ghost use Rattle.proxy_main.specs.Scripts.{IsLineText, IsBad, line_limit};
 
 use crate::stop::LineStop;
 use kp_edge::NoMemory;
@@ -12,10 +12,11 @@ use wire_types::Writer;
 // The most bytes of a line without its byte 10.
 pub(crate) const LINE_LIMIT: usize = 268_435_456;
 
-// What a line says.
+// The line that a text is.
 pub(crate) fn read(alloc: Global, text: &[u8]) -> Result<Line, LineStop>
-    ensures ok { IfOk result (λ line. Says text.now line) }
+    ensures ok { IfOk result (λ line. IsLineText text.now line) }
     ensures bad { IsErrOf result LineStop.BadLine → IsBad text.now }
+    ensures no_memory { IsErrOf result LineStop.NoMemory → length text.now ≤ line_limit }
 {
     if text.len() > LINE_LIMIT {
         return Err(LineStop::BadLine);

@@ -2,21 +2,21 @@ ghost use Rattle.std.specs.Prelude.{◌≡◌, ◌++◌, ◌+◌, ◌<◌, ◌�
 ghost use Rattle.proxy_main.specs.Scripts.{line_limit};
 
 use crate::lines::{LINE_LIMIT, put_answer, read};
-use crate::station::Station;
+use crate::perform::perform;
 use crate::stop::LineStop;
-use conn_core::heads_law;
-use conn_rules::order_law;
-use kp_edge::NoMemory;
+use conn_rules::Connection;
+use kp_edge::{NoMemory, Steps};
 use memchr::memchr;
+use session::Station;
 use std::alloc::Global;
 use std::mem;
 use wire_types::Writer;
 
 // A script on its way: a connection, and the bytes of a line that hasn't ended.
 #[derive(Drop)]
-pub(crate) struct Replay {
+pub(crate) struct Replay<C> {
     pub(crate) alloc: Global,
-    pub(crate) station: Station,
+    pub(crate) station: Station<C>,
     // The answers that wait to be written.
     pub(crate) answers: Writer,
     // What came of a line that hasn't ended: as much as a line may have, and one byte more.
@@ -25,17 +25,19 @@ pub(crate) struct Replay {
     pub(crate) lines: u64,
 }
 
-impl Replay {
+impl<C: Connection> Replay<C> {
+    ghost use Rattle.conn_rules.specs.Meaning.{Meaning, Lasting};
+    ghost use Rattle.conn_rules.specs.State.{opening};
     ghost use Rattle.proxy_main.specs.Scripts.{IsBad};
-    ghost use Rattle.proxy_main.specs.Run.{Reading, Answers, Advances, Stumbles, Ends, EndsBadly, Finishes, FinishesBadly};
+    ghost use Rattle.proxy_main.specs.Progress.{HasRead, AnswersLine, Advances, Stumbles, EndsLine, EndsBadly, Finishes, FinishesBadly};
 
-    pub(crate) fn new(alloc: Global) -> Replay
-        ensures start { Reading result [] [] }
+    pub(crate) fn new(alloc: Global, connection: C) -> Replay<C>
+        ensures start { (M : Meaning) → Lasting M → C.meaning connection ≡ M → C.stands connection opening → HasRead C.meaning C.stands M result [] [] }
         ensures pending { result.answers ≡ [] }
     {
         Replay {
             alloc,
-            station: Station::new(alloc),
+            station: Station::new(alloc, connection),
             answers: Writer::new(alloc),
             partial: Vec::new(alloc),
             lines: 0,
@@ -46,8 +48,8 @@ impl Replay {
     pub(crate) fn advance(&mut self, bytes: &[u8]) -> Result<usize, LineStop>
         requires { 0 < length bytes.now }
         ensures bound { IfOk result (λ n. (0 < n) × (n ≤ length bytes.now)) }
-        ensures ok { IfOk result (λ n. Advances self.old (take n bytes.now) self.new) }
-        ensures bad { IsErrOf result LineStop.BadLine → Stumbles self.old bytes.now self.new }
+        ensures ok { IfOk result (λ n. Advances C.meaning C.stands self.old (take n bytes.now) self.new) }
+        ensures bad { IsErrOf result LineStop.BadLine → Stumbles C.meaning C.stands self.old bytes.now self.new }
         ensures err { OnErr result (self.new.answers ≡ self.old.answers) }
     {
         match memchr(b'\n', bytes) {
@@ -64,8 +66,8 @@ impl Replay {
 
     // Answers the last line, where it isn't empty.
     pub(crate) fn finish(&mut self) -> Result<(), LineStop>
-        ensures ok { OnOk result (Finishes self.old self.new) }
-        ensures bad { IsErrOf result LineStop.BadLine → FinishesBadly self.old self.new }
+        ensures ok { OnOk result (Finishes C.meaning C.stands self.old self.new) }
+        ensures bad { IsErrOf result LineStop.BadLine → FinishesBadly C.meaning C.stands self.old self.new }
         ensures err { OnErr result (self.new.answers ≡ self.old.answers) }
     {
         if self.partial.is_empty() {
@@ -77,8 +79,8 @@ impl Replay {
 
     // A line ends with this piece.
     fn end_line(&mut self, piece: &[u8]) -> Result<(), LineStop>
-        ensures ok { OnOk result (Ends self.old piece.now self.new) }
-        ensures bad { IsErrOf result LineStop.BadLine → EndsBadly self.old piece.now self.new }
+        ensures ok { OnOk result (EndsLine C.meaning C.stands self.old piece.now self.new) }
+        ensures bad { IsErrOf result LineStop.BadLine → EndsBadly C.meaning C.stands self.old piece.now self.new }
         ensures err { OnErr result (self.new.answers ≡ self.old.answers) }
     {
         if self.partial.is_empty() {
@@ -91,20 +93,19 @@ impl Replay {
 
     // Answers one line.
     fn answer(&mut self, line: &[u8]) -> Result<(), LineStop>
-        ensures ok { OnOk result (Answers self.old line.now self.new) }
+        ensures ok { OnOk result (AnswersLine C.meaning C.stands self.old line.now self.new) }
         ensures within { OnOk result (length line.now ≤ line_limit) }
         ensures bad { IsErrOf result LineStop.BadLine → IsBad line.now }
         ensures same { IsErrOf result LineStop.BadLine → self.new ≡ self.old }
         ensures err { OnErr result (self.new.answers ≡ self.old.answers) }
         ensures partial { self.new.partial.items ≡ self.old.partial.items }
     {
-        let said = read(self.alloc, line)?;
+        let line = read(self.alloc, line)?;
         let Some(lines) = self.lines.checked_add(1) else {
             return Err(LineStop::NoMemory);
         };
-        order_law();
-        heads_law();
-        let answer = self.station.perform(said)?;
+        let mut steps = Steps::<()>::new();
+        let answer = perform(&mut self.station, line, &mut steps)?;
         put_answer(&mut self.answers, &answer)?;
         self.lines = lines;
         Ok(())

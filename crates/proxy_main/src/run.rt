@@ -1,10 +1,11 @@
 // A script read to its end, piece by piece, and its answers written.
-ghost use Rattle.std.specs.Prelude.{◌≡◌, ◌≤◌, ◌<◌, length, IfOk, IfErr, OnOk, OnErr, IsErrOf};
-ghost use Rattle.kp_edge.specs.Counts.{HasCause, Rose};
+ghost use Rattle.std.specs.Prelude.{◌≡◌, ◌≤◌, ◌<◌, ℕ, List, Some, length, IfOk, IfErr, OnOk, OnErr, IsErrOf};
+ghost use Rattle.kp_edge.specs.Counts.{BothCounted, Counted, HasCause};
 
 use crate::output::write_all;
 use crate::replay::Replay;
 use crate::stop::Stop;
+use conn_rules::Connection;
 use kp_edge::{Failed, Sink, Source};
 
 // The most bytes of a script.
@@ -13,8 +14,9 @@ const SCRIPT_LIMIT: u64 = 1_073_741_824;
 // From how many bytes on the answers that wait are written before more lines are answered.
 const MANY: usize = 65_536;
 
-impl Replay {
-    ghost use Rattle.proxy_main.specs.Runs.{Flushes, Goes, TakesAll, TakeStops, Turns, ReadsAll};
+impl<C: Connection> Replay<C> {
+    ghost use Rattle.proxy_main.specs.Written.{Flushes, WaitsOrWritten, TakesAll, TakeStops, Turns, ReadsOnce, ReadsAll};
+    ghost use Rattle.proxy_main.specs.Scripts.{ReadSoFar};
     ghost use Rattle.proxy_main.specs.Output.{AppendsFront};
 
     // Reads the input to its end.
@@ -25,11 +27,9 @@ impl Replay {
         out: &mut O,
     ) -> Result<(), Stop>
         requires { 0 < length buffer.old }
-        ensures read { ReadsAll self.old (I.left input.old) (O.taken out.old) self.new (I.left input.new) (O.taken out.new) result }
-        ensures later_in { I.faults input.old ≤ I.faults input.new }
-        ensures later_out { O.faults out.old ≤ O.faults out.new }
-        ensures input { IsErrOf result Stop.Input → Rose (I.faults input.old) (I.faults input.new) }
-        ensures output { IsErrOf result Stop.Output → Rose (O.faults out.old) (O.faults out.new) }
+        ensures so_far { (script : List ℕ) → I.coming input.old ≡ Some script → ReadSoFar (length buffer.old) script (I.coming input.new) }
+        ensures read { ReadsAll C.meaning C.stands (length buffer.old) self.old (I.coming input.old) (O.taken out.old) self.new (I.coming input.new) (O.taken out.new) result }
+        ensures faults { BothCounted (IsErrOf result Stop.Input) (IsErrOf result Stop.Output) (I.faults input.old) (I.faults input.new) (O.faults out.old) (O.faults out.new) }
     {
         let mut left = SCRIPT_LIMIT;
         loop {
@@ -56,11 +56,9 @@ impl Replay {
     ) -> Result<u64, Stop>
         requires { 0 < length buffer.old }
         ensures bound { IfOk result (λ count. count ≤ left) }
-        ensures turn { Turns self.old (I.left input.old) (O.taken out.old) left self.new (I.left input.new) (O.taken out.new) result }
-        ensures later_in { I.faults input.old ≤ I.faults input.new }
-        ensures later_out { O.faults out.old ≤ O.faults out.new }
-        ensures input { IsErrOf result Stop.Input → Rose (I.faults input.old) (I.faults input.new) }
-        ensures output { IsErrOf result Stop.Output → Rose (O.faults out.old) (O.faults out.new) }
+        ensures once { ReadsOnce (length buffer.old) (I.coming input.old) (I.coming input.new) result }
+        ensures turn { Turns C.meaning C.stands (length buffer.old) self.old (I.coming input.old) (O.taken out.old) left self.new (I.coming input.new) (O.taken out.new) result }
+        ensures faults { BothCounted (IsErrOf result Stop.Input) (IsErrOf result Stop.Output) (I.faults input.old) (I.faults input.new) (O.faults out.old) (O.faults out.new) }
     {
         match self.flush(out) {
             Ok(()) => {}
@@ -84,10 +82,9 @@ impl Replay {
 
     // Takes all the bytes, and writes the answers wherever they are many.
     fn take_all<O: Sink>(&mut self, bytes: &[u8], out: &mut O) -> Result<(), Stop>
-        ensures ok { OnOk result (TakesAll self.old (O.taken out.old) bytes.now self.new (O.taken out.new)) }
-        ensures err { IfErr result (TakeStops self.old (O.taken out.old) bytes.now self.new (O.taken out.new)) }
-        ensures later { O.faults out.old ≤ O.faults out.new }
-        ensures output { IsErrOf result Stop.Output → Rose (O.faults out.old) (O.faults out.new) }
+        ensures ok { OnOk result (TakesAll C.meaning C.stands self.old (O.taken out.old) bytes.now self.new (O.taken out.new)) }
+        ensures err { IfErr result (TakeStops C.meaning C.stands self.old (O.taken out.old) bytes.now self.new (O.taken out.new)) }
+        ensures faults { Counted (IsErrOf result Stop.Output) (O.faults out.old) (O.faults out.new) }
         ensures not_input { IsErrOf result Stop.Input → ⊥ }
     {
         let mut rest = bytes;
@@ -107,7 +104,7 @@ impl Replay {
 
     // Writes the answers that wait, where they are many.
     fn flush_many<O: Sink>(&mut self, out: &mut O) -> Result<(), Failed>
-        ensures ok { OnOk result (Goes self.old (O.taken out.old) self.new (O.taken out.new)) }
+        ensures ok { OnOk result (WaitsOrWritten C.meaning C.stands self.old (O.taken out.old) self.new (O.taken out.new)) }
         ensures err { OnErr result (AppendsFront (O.taken out.old) self.old.answers (O.taken out.new)) }
         ensures cause { HasCause (O.faults out.old) (O.faults out.new) result }
     {

@@ -190,16 +190,14 @@ fn script_of(alloc: Global, exchange: &Exchange) -> Result<(String, String), Fai
     Ok((script, text))
 }
 
-// Runs the command over a script that is read in pieces of so many bytes, and compares status and output.
-fn runs(
+// Runs the command over a script that is read in pieces of so many bytes, and gives its status and its output.
+fn ran(
     alloc: Global,
     words: &[&str],
     script: &str,
     piece: u32,
     faults: &Faults,
-    status: Status,
-    text: &str,
-) -> Result<bool, Fail> {
+) -> Result<(Status, String), Fail> {
     let words = words_of(alloc, words)?;
     let pieces = vec![in alloc; piece; script.len()]?;
     let bytes = Blob::copy(alloc, script.as_bytes())?;
@@ -212,7 +210,7 @@ fn runs(
     )?;
     let mut files = MemFiles::new(Vec::new(alloc), Vec::new(alloc));
     let mut steps = Steps::<()>::new();
-    let ended = run_command(
+    let status = run_command(
         alloc,
         words.as_slice(),
         &mut input,
@@ -220,106 +218,131 @@ fn runs(
         &mut files,
         &mut steps,
     );
-    Ok(ended == status && out.bytes() == text.as_bytes())
+    let text = std::str::from_utf8(out.bytes()).ok().ok_or("text")?;
+    Ok((status, String::from_str(alloc, text)?))
 }
 
-// The first of the exchanges that goes another way.
-fn first_other(alloc: Global, exchanges: &[Exchange]) -> Result<Option<&'static str>, Fail> {
+// How the first line that differs is told: its number, what was wanted, and what was found.
+fn first_line(alloc: Global, wanted: &str, found: &str) -> Result<String, Fail> {
+    let mut others = found.lines();
+    for (at, line) in wanted.lines().enumerate() {
+        let other = others.next().unwrap_or("nothing");
+        if line != other {
+            return Ok(format!(in alloc; "line {}: wanted {line}, got {other}", at + 1)?);
+        }
+    }
+    let other = others.next().unwrap_or("another line end");
+    Ok(format!(in alloc; "behind the lines: got {other}")?)
+}
+
+// How the first exchange that goes another way differs: its name, the size of the pieces, the line. No text where none
+// differs.
+fn first_other(alloc: Global, exchanges: &[Exchange]) -> Result<String, Fail> {
     for exchange in exchanges {
         let (script, text) = script_of(alloc, exchange)?;
         for piece in [1, 7, 4096] {
-            let same = runs(
-                alloc,
-                &["replay"],
-                script.as_str(),
-                piece,
-                &NONE,
-                Status::Done,
-                text.as_str(),
-            )?;
-            if !same {
-                return Ok(Some(exchange.name));
+            let (status, found) = ran(alloc, &["replay"], script.as_str(), piece, &NONE)?;
+            let name = exchange.name;
+            if found.as_str() != text.as_str() {
+                let line = first_line(alloc, text.as_str(), found.as_str())?;
+                return Ok(format!(in alloc; "{name}, in pieces of {piece}: {line}")?);
+            }
+            if status != Status::Done {
+                return Ok(format!(in alloc; "{name}, in pieces of {piece}: status {status:?}")?);
             }
         }
     }
-    Ok(None)
+    Ok(String::new(alloc))
 }
 
 #[test]
 fn the_shortest_ways(rt: HostRuntime) -> Result<(), Fail> {
-    assert_eq!(rt; first_other(rt.alloc(), SHORTEST)?, None);
+    let other = first_other(rt.alloc(), SHORTEST)?;
+    assert_eq!(rt; other.as_str(), "");
     Ok(())
 }
 
 #[test]
 fn frames_come_in_pieces(rt: HostRuntime) -> Result<(), Fail> {
-    assert_eq!(rt; first_other(rt.alloc(), PIECES)?, None);
+    let other = first_other(rt.alloc(), PIECES)?;
+    assert_eq!(rt; other.as_str(), "");
     Ok(())
 }
 
 #[test]
 fn bad_sizes_of_the_client(rt: HostRuntime) -> Result<(), Fail> {
-    assert_eq!(rt; first_other(rt.alloc(), CLIENT_SIZES)?, None);
+    let other = first_other(rt.alloc(), CLIENT_SIZES)?;
+    assert_eq!(rt; other.as_str(), "");
     Ok(())
 }
 
 #[test]
 fn bad_sizes_of_the_broker(rt: HostRuntime) -> Result<(), Fail> {
-    assert_eq!(rt; first_other(rt.alloc(), BROKER_SIZES)?, None);
+    let other = first_other(rt.alloc(), BROKER_SIZES)?;
+    assert_eq!(rt; other.as_str(), "");
     Ok(())
 }
 
 #[test]
 fn the_client_ends(rt: HostRuntime) -> Result<(), Fail> {
-    assert_eq!(rt; first_other(rt.alloc(), CLIENT_ENDS)?, None);
+    let other = first_other(rt.alloc(), CLIENT_ENDS)?;
+    assert_eq!(rt; other.as_str(), "");
     Ok(())
 }
 
 #[test]
 fn frames_that_are_no_request(rt: HostRuntime) -> Result<(), Fail> {
-    assert_eq!(rt; first_other(rt.alloc(), HEADS)?, None);
+    let other = first_other(rt.alloc(), HEADS)?;
+    assert_eq!(rt; other.as_str(), "");
     Ok(())
 }
 
 #[test]
 fn versions_are_told(rt: HostRuntime) -> Result<(), Fail> {
-    assert_eq!(rt; first_other(rt.alloc(), VERSIONS)?, None);
+    let other = first_other(rt.alloc(), VERSIONS)?;
+    assert_eq!(rt; other.as_str(), "");
     Ok(())
 }
 
 #[test]
 fn faults_outside(rt: HostRuntime) -> Result<(), Fail> {
-    assert_eq!(rt; first_other(rt.alloc(), FAULTS)?, None);
+    let other = first_other(rt.alloc(), FAULTS)?;
+    assert_eq!(rt; other.as_str(), "");
     Ok(())
 }
 
 #[test]
 fn answers_out_of_turn(rt: HostRuntime) -> Result<(), Fail> {
-    assert_eq!(rt; first_other(rt.alloc(), ANSWERS)?, None);
+    let other = first_other(rt.alloc(), ANSWERS)?;
+    assert_eq!(rt; other.as_str(), "");
     Ok(())
 }
 
 #[test]
 fn the_broker_ends(rt: HostRuntime) -> Result<(), Fail> {
-    assert_eq!(rt; first_other(rt.alloc(), BROKER_ENDS)?, None);
+    let other = first_other(rt.alloc(), BROKER_ENDS)?;
+    assert_eq!(rt; other.as_str(), "");
     Ok(())
 }
 
 #[test]
 fn cuts_and_deaths(rt: HostRuntime) -> Result<(), Fail> {
-    assert_eq!(rt; first_other(rt.alloc(), ORDER)?, None);
+    let other = first_other(rt.alloc(), ORDER)?;
+    assert_eq!(rt; other.as_str(), "");
     Ok(())
 }
 
 #[test]
 fn no_hold_waits(rt: HostRuntime) -> Result<(), Fail> {
-    assert_eq!(rt; first_other(rt.alloc(), HOLDS)?, None);
+    let other = first_other(rt.alloc(), HOLDS)?;
+    assert_eq!(rt; other.as_str(), "");
     Ok(())
 }
 
 #[test]
 fn a_frame_finds_no_room(rt: HostRuntime) -> Result<(), Fail> {
-    assert_eq!(rt; first_other(rt.alloc(), ROOM)?, None);
+    let other = first_other(rt.alloc(), ROOM)?;
+    assert_eq!(rt; other.as_str(), "");
     Ok(())
 }
 
@@ -327,17 +350,60 @@ fn a_frame_finds_no_room(rt: HostRuntime) -> Result<(), Fail> {
 fn scripts_are_answered_byte_for_byte(rt: HostRuntime) -> Result<(), Fail> {
     for case in CASES {
         for piece in [1, 2, 7, 4096] {
-            let same = runs(
-                rt.alloc(),
-                &["replay"],
-                case.script,
-                piece,
-                &NONE,
-                case.status,
+            let (status, text) = ran(rt.alloc(), &["replay"], case.script, piece, &NONE)?;
+            assert_eq!(rt;
+                text.as_str(),
                 case.text,
-            )?;
-            assert!(rt; same, "{} in pieces of {piece}", case.name);
+                "{} in pieces of {piece}",
+                case.name
+            );
+            assert_eq!(rt; status, case.status, "{} in pieces of {piece}", case.name);
         }
+    }
+    Ok(())
+}
+
+// So many lines of one kind, in pieces of such a size.
+const MANY: [(usize, u32); 3] = [(10_000, 65_536), (10_000, 7), (1, 1)];
+
+#[test]
+fn many_lines(rt: HostRuntime) -> Result<(), Fail> {
+    for (lines, piece) in MANY {
+        let mut script = String::new(rt.alloc());
+        let mut text = String::new(rt.alloc());
+        for _ in 0..lines {
+            script.push_str("send\n")?;
+            text.push_str("none\n")?;
+        }
+        let (status, found) = ran(rt.alloc(), &["replay"], script.as_str(), piece, &NONE)?;
+        assert!(rt;
+            found.as_str() == text.as_str(),
+            "{lines} lines in pieces of {piece}"
+        );
+        assert_eq!(rt; status, Status::Done, "{lines} lines in pieces of {piece}");
+    }
+    Ok(())
+}
+
+// A client's piece of so many bytes in one line: the size of the greatest frame, and a part of it.
+const LONG: [(usize, u32); 3] = [(4, 65_536), (65_537, 4096), (3_145_728, 1_048_576)];
+
+#[test]
+fn long_lines(rt: HostRuntime) -> Result<(), Fail> {
+    for (bytes, piece) in LONG {
+        let mut script = String::from_str(rt.alloc(), "client 06400000")?;
+        for _ in 4..bytes {
+            script.push_str("00")?;
+        }
+        script.push_str("\nclient-end\nemit\n")?;
+        let wanted = format!(in rt.alloc(); "ok\nok\nover client-torn rest={bytes}\n")?;
+        let (status, found) = ran(rt.alloc(), &["replay"], script.as_str(), piece, &NONE)?;
+        assert_eq!(rt;
+            found.as_str(),
+            wanted.as_str(),
+            "{bytes} bytes in pieces of {piece}"
+        );
+        assert_eq!(rt; status, Status::Done, "{bytes} bytes in pieces of {piece}");
     }
     Ok(())
 }
@@ -355,17 +421,9 @@ fn a_failed_read_ends_behind_the_answers(rt: HostRuntime) -> Result<(), Fail> {
             writes: &[],
             room: 4096,
         };
-        assert!(rt;
-            runs(
-                rt.alloc(),
-                &["replay"],
-                "send\nemit\n",
-                piece,
-                &faults,
-                Status::InputFault,
-                text
-            )?
-        );
+        let (status, found) = ran(rt.alloc(), &["replay"], "send\nemit\n", piece, &faults)?;
+        assert_eq!(rt; found.as_str(), text, "in pieces of {piece}");
+        assert_eq!(rt; status, Status::InputFault, "in pieces of {piece}");
     }
     Ok(())
 }
@@ -384,17 +442,9 @@ fn a_failed_write_leaves_a_front(rt: HostRuntime) -> Result<(), Fail> {
             writes,
             room,
         };
-        assert!(rt;
-            runs(
-                rt.alloc(),
-                &["replay"],
-                "send\nemit\n",
-                4096,
-                &faults,
-                Status::OutputFault,
-                text
-            )?
-        );
+        let (status, found) = ran(rt.alloc(), &["replay"], "send\nemit\n", 4096, &faults)?;
+        assert_eq!(rt; found.as_str(), text, "with room for {room}");
+        assert_eq!(rt; status, Status::OutputFault, "with room for {room}");
     }
     Ok(())
 }
@@ -413,35 +463,19 @@ fn other_words_are_told_the_usage(rt: HostRuntime) -> Result<(), Fail> {
         &["check", "config.ini"],
         &["play"],
     ];
-    for words in table {
-        assert!(rt;
-            runs(
-                rt.alloc(),
-                words,
-                "send\n",
-                4096,
-                &NONE,
-                Status::Usage,
-                usage
-            )?
-        );
+    for (at, words) in table.into_iter().enumerate() {
+        let (status, found) = ran(rt.alloc(), words, "send\n", 4096, &NONE)?;
+        assert_eq!(rt; found.as_str(), usage, "words {at}");
+        assert_eq!(rt; status, Status::Usage, "words {at}");
     }
     let faults = Faults {
         reads: &[],
         writes: &[1],
         room: 4096,
     };
-    assert!(rt;
-        runs(
-            rt.alloc(),
-            &[],
-            "",
-            4096,
-            &faults,
-            Status::OutputFault,
-            "usage: "
-        )?
-    );
+    let (status, found) = ran(rt.alloc(), &[], "", 4096, &faults)?;
+    assert_eq!(rt; found.as_str(), "usage: ");
+    assert_eq!(rt; status, Status::OutputFault);
     Ok(())
 }
 

@@ -18,13 +18,13 @@ use Rattle.hex.specs.Hex.{decode_of}
 use Rattle.hex.proofs.HexLemmas.{decode_of-ok}
 use Rattle.transcript.specs.Hex.{SpellsBytes}
 use Rattle.transcript.specs.Lines.{SpellsNumber, SpellsDone, Spells, most_verdict}
-use Rattle.transcript.specs.Reading.{Reads, number_of, bytes_of, word_of, behind, bare_of, verdict_of, done_of, line_of}
+use Rattle.transcript.specs.Reading.{IsReadAs, number_of, bytes_of, word_of, rest_after, bare_of, verdict_of, done_of, line_of}
 use Rattle.transcript.specs.declared.line.Line.{Line}
 use Rattle.transcript.specs.declared.line.Line.TheVariants.{Client, Broker, ClientEnd, BrokerEnd, Send, Emit, Pick, Done, FaultClientRead, FaultClientWrite, FaultBrokerRead, FaultBrokerWrite, FaultAuthority}
 use Rattle.transcript.specs.declared.line.LineFault.{LineFault}
 use Rattle.transcript.specs.declared.line.LineFault.TheVariants.{BadLine, NoMemory}
 use Rattle.transcript.proofs.NumberLemmas.{own, number_of-Some, number_of-digits}
-use Rattle.transcript.proofs.Options.{chosen, option_map-Some, bind_Some, or_else-Some, result_ok-Some, behind-Some}
+use Rattle.transcript.proofs.Options.{chosen, option_map-Some, bind_Some, read_or-Some, result_ok-Some, rest_after-Some}
 
 -- ---- bytes
 
@@ -214,24 +214,24 @@ done_again request index verdict text spelled =
 line_is : (text : List ℕ) (line : Line) → line_of text ≡ Some line → Spells line text
 unfolding line_of
 line_is text line read =
-    elim (or_else-Some (bare_of text) _ _ line read) [
+    elim (read_or-Some (bare_of text) _ _ line read) [
       | inl h ↦ let e : h.0 ≡ line = cc h.2 in subst (λ l. Spells l text) e (bare_of-Some text h.0 h.1)
-      | inr client ↦ elim (or_else-Some (behind (codes "client ") text) _ _ line client) [
+      | inr client ↦ elim (read_or-Some (rest_after (codes "client ") text) _ _ line client) [
         | inl h ↦
             let b = option_map-Some Client (bytes_of h.0) line h.2 in
-            subst (λ l. Spells l text) b.2 (h.0, behind-Some (codes "client ") text h.0 h.1, bytes_of-Some h.0 b.0 b.1)
-        | inr broker ↦ elim (or_else-Some (behind (codes "broker ") text) _ _ line broker) [
+            subst (λ l. Spells l text) b.2 (h.0, rest_after-Some (codes "client ") text h.0 h.1, bytes_of-Some h.0 b.0 b.1)
+        | inr broker ↦ elim (read_or-Some (rest_after (codes "broker ") text) _ _ line broker) [
           | inl h ↦
               let b = option_map-Some Broker (bytes_of h.0) line h.2 in
-              subst (λ l. Spells l text) b.2 (h.0, behind-Some (codes "broker ") text h.0 h.1, bytes_of-Some h.0 b.0 b.1)
-          | inr done ↦ elim (or_else-Some (behind (codes "done ") text) _ _ line done) [
+              subst (λ l. Spells l text) b.2 (h.0, rest_after-Some (codes "broker ") text h.0 h.1, bytes_of-Some h.0 b.0 b.1)
+          | inr done ↦ elim (read_or-Some (rest_after (codes "done ") text) _ _ line done) [
             | inl h ↦
                 let d = done_is h.0 line h.2 in
-                subst (λ l. Spells l text) (sym d.3) (h.0, behind-Some (codes "done ") text h.0 h.1, d.4)
-            | inr authority ↦ elim (or_else-Some (behind (codes "fault authority ") text) _ _ line authority) [
+                subst (λ l. Spells l text) (sym d.3) (h.0, rest_after-Some (codes "done ") text h.0 h.1, d.4)
+            | inr authority ↦ elim (read_or-Some (rest_after (codes "fault authority ") text) _ _ line authority) [
               | inl h ↦
                   let b = option_map-Some FaultAuthority (number_of (2 ^ 64) h.0) line h.2 in
-                  subst (λ l. Spells l text) b.2 (h.0, behind-Some (codes "fault authority ") text h.0 h.1, number_is (2 ^ 64) b.0 h.0 b.1)
+                  subst (λ l. Spells l text) b.2 (h.0, rest_after-Some (codes "fault authority ") text h.0 h.1, number_is (2 ^ 64) b.0 h.0 b.1)
               | inr none ↦ absurd (no_line line none)
             ]
           ]
@@ -255,17 +255,17 @@ line_again FaultBrokerRead text h = rw h refl
 line_again FaultBrokerWrite text h = rw h refl
 line_again (FaultAuthority request) text h = rw h.1 (ap (option_map FaultAuthority) (number_again (2 ^ 64) request h.0 h.2))
 
-pub read_found : (result : Result Line LineFault) (text : List ℕ) → Reads result (line_of text) → IfOk result (λ line. Spells line text)
+pub read_found : (result : Result Line LineFault) (text : List ℕ) → IsReadAs result (line_of text) → IfOk result (λ line. Spells line text)
 read_found (Ok line) text read = line_is text line read
 read_found (Err fault) text read = tt
 
-pub read_spelled : (result : Result Line LineFault) (text : List ℕ) → Reads result (line_of text) → (spelled : Line) → Spells spelled text
+pub read_spelled : (result : Result Line LineFault) (text : List ℕ) → IsReadAs result (line_of text) → (spelled : Line) → Spells spelled text
     → MatchResult result (λ found. found ≡ spelled) (λ fault. fault ≡ NoMemory)
 read_spelled (Ok line) text read spelled spells = let again = line_again spelled text spells in cc
 read_spelled (Err NoMemory) text read spelled spells = refl
 read_spelled (Err BadLine) text read spelled spells = cc (line_again spelled text spells)
 
-pub read_bad : (result : Result Line LineFault) (text : List ℕ) → Reads result (line_of text) → IsErrOf result BadLine → (other : Line) → Spells other text → ⊥
+pub read_bad : (result : Result Line LineFault) (text : List ℕ) → IsReadAs result (line_of text) → IsErrOf result BadLine → (other : Line) → Spells other text → ⊥
 read_bad (Ok line) text read bad other spells = cc
 read_bad (Err NoMemory) text read bad other spells = cc
 read_bad (Err BadLine) text read bad other spells = cc (line_again other text spells)

@@ -5,7 +5,7 @@ use Rattle.std.specs.Result.{result_ok}
 use Rattle.std.specs.Str.{bytes_eq}
 use Rattle.std.proofs.lemmas.List.{take-append-drop}
 use Rattle.std.proofs.lemmas.Slice.Eq.{bytes_eq-Decides}
-use Rattle.transcript.specs.Reading.{behind, ◌>>=◌, or_else}
+use Rattle.transcript.specs.Reading.{rest_after, ◌>>=◌, read_or}
 
 -- which side of a test was taken
 pub chosen : {X : Type 0} (b : Bool) (x y z : X) → cond b x y ≡ z → ((b ≡ true) × (x ≡ z)) ⊎ ((b ≡ false) × (y ≡ z))
@@ -20,17 +20,17 @@ pub bind_Some : {X Y : Type 0} (o : Option X) (f : X → Option Y) (y : Y) → (
 bind_Some None f y e = cc
 bind_Some (Some x) f y e = (x, refl, e)
 
-pub or_else-Some : {X Y : Type 0} (o : Option X) (f : X → Option Y) (other : Option Y) (y : Y) → or_else o f other ≡ Some y
+pub read_or-Some : {X Y : Type 0} (o : Option X) (f : X → Option Y) (other : Option Y) (y : Y) → read_or o f other ≡ Some y
     → ((x : X) × (o ≡ Some x) × (f x ≡ Some y)) ⊎ (other ≡ Some y)
-or_else-Some None f other y e = inr e
-or_else-Some (Some x) f other y e = inl (x, refl, e)
+read_or-Some None f other y e = inr e
+read_or-Some (Some x) f other y e = inl (x, refl, e)
 
 pub result_ok-Some : {X E : Type 0} (r : Result X E) (x : X) → result_ok r ≡ Some x → r ≡ Ok x
 result_ok-Some (Ok y) x e = cc
 result_ok-Some (Err f) x e = cc
 
-pub behind-Some : (front text rest : List ℕ) → behind front text ≡ Some rest → text ≡ front ++ rest
-behind-Some front text rest e =
+pub rest_after-Some : (front text rest : List ℕ) → rest_after front text ≡ Some rest → text ≡ front ++ rest
+rest_after-Some front text rest e =
     elim (chosen (bytes_eq (take (length front) text) front) (Some (drop (length front) text)) None (Some rest) e) [
       | inl h ↦
           let same : take (length front) text ≡ front = (bytes_eq-Decides (take (length front) text) front).0 h.0 in

@@ -5,7 +5,7 @@ use Rattle.std.specs.Fmt.{WritesText}
 use Rattle.std.proofs.lemmas.Fmt.{contents_after_writes}
 use Rattle.std.proofs.lemmas.List.{take-append-drop}
 use Rattle.hex.specs.Hex.{encode_with, encode_lower, lower_digits}
-use Rattle.transcript.specs.Answers.{AppendsFront}
+use Rattle.transcript.specs.Answers.{HasFrontAppended}
 
 encode_with-append : (t a b : List ℕ) → encode_with t (a ++ b) ≡ encode_with t a ++ encode_with t b
 unfolding encode_with
@@ -32,7 +32,7 @@ put_more bytes rest old out n new so_far more =
           ∙ ap (λ s. old ++ s) (sym (encode_with-append lower_digits so_far.front (take n rest)));
     }
 
-pub put_front : (bytes rest old out : List ℕ) → PutSoFar bytes rest old out → AppendsFront old out (encode_lower bytes)
+pub put_front : (bytes rest old out : List ℕ) → PutSoFar bytes rest old out → HasFrontAppended old out (encode_lower bytes)
 put_front bytes rest old out so_far =
     record {
       front = encode_lower so_far.front;
@@ -65,7 +65,7 @@ words_put (Ok v) failed (Ok u) (Some words) start after text old new known none 
     put ∙ ap (λ s. old ++ s) (same ∙ whole ∙ ap (λ s. s ++ words) begins)
 
 -- a front is appended behind a front
-pub front_behind : (old mid new head text : List ℕ) → mid ≡ old ++ head → AppendsFront mid new text → AppendsFront old new (head ++ text)
+pub front_behind : (old mid new head text : List ℕ) → mid ≡ old ++ head → HasFrontAppended mid new text → HasFrontAppended old new (head ++ text)
 front_behind old mid new head text first then_front =
     record {
       front = head ++ then_front.front;
@@ -75,7 +75,7 @@ front_behind old mid new head text first then_front =
     }
 
 -- where nothing was appended the front is empty
-pub no_front : (old new text : List ℕ) → new ≡ old → AppendsFront old new text
+pub no_front : (old new text : List ℕ) → new ≡ old → HasFrontAppended old new text
 no_front old new text same = record { front = []; rest = text; splits = refl; appended = same ∙ sym (append-nil old) }
 
 pub ruleset printing = (put_none, put_more, put_front, put_all, words_put, front_behind, no_front)

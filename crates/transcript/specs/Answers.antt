@@ -19,7 +19,7 @@ answer_text (Over end) = codes "over " ++ end_text end
 answer_text (Ticket request index key) = codes "ticket " ++ decimal request ++ codes " " ++ decimal index ++ codes " " ++ hex_text key
 
 -- new is old with a front of the text at its end
-pub record AppendsFront (old new text : List ℕ) : Type 0 where
+pub record HasFrontAppended (old new text : List ℕ) : Type 0 where
   pub front : List ℕ
   pub rest : List ℕ
   pub splits : text ≡ front ++ rest

@@ -12,10 +12,10 @@ use Rattle.transcript.specs.declared.line.LineFault.{LineFault}
 use Rattle.transcript.specs.declared.line.LineFault.TheVariants.{BadLine, NoMemory}
 
 -- the result is what reading gives, unless memory ran out
-abbrev pub Reads : {X : Type 0} → Result X LineFault → Option X → Type 0
-Reads (Ok x) read = read ≡ Some x
-Reads (Err BadLine) read = read ≡ None
-Reads (Err NoMemory) read = Unit {0}
+abbrev pub IsReadAs : {X : Type 0} → Result X LineFault → Option X → Type 0
+IsReadAs (Ok x) read = read ≡ Some x
+IsReadAs (Err BadLine) read = read ≡ None
+IsReadAs (Err NoMemory) read = Unit {0}
 
 -- the number that a word of digits stands for, below the limit
 unfoldable pub number_of : ℕ → List ℕ → Option ℕ
@@ -34,9 +34,9 @@ bytes_of word =
 unfoldable pub word_of : List ℕ → Option (List ℕ × List ℕ)
 word_of text = option_map (λ i. (take i text, drop (i + 1) text)) (position (λ c. c == 32) text)
 
--- what stands behind a front
-abbrev pub behind : List ℕ → List ℕ → Option (List ℕ)
-behind front text = if bytes_eq (take (length front) text) front then Some (drop (length front) text) else None
+-- what follows a front
+abbrev pub rest_after : List ℕ → List ℕ → Option (List ℕ)
+rest_after front text = if bytes_eq (take (length front) text) front then Some (drop (length front) text) else None
 
 -- goes on with the value if there is one
 infixl 10 ◌>>=◌
@@ -45,9 +45,9 @@ abbrev pub ◌>>=◌ : {A B : Type 0} → Option A → (A → Option B) → Opti
 None >>= f = None
 
 -- what is read of the value, or else of the rest
-abbrev pub or_else : {A B : Type 0} → Option A → (A → Option B) → Option B → Option B
-or_else (Some x) f other = f x
-or_else None f other = other
+abbrev pub read_or : {A B : Type 0} → Option A → (A → Option B) → Option B → Option B
+read_or (Some x) f other = f x
+read_or None f other = other
 
 -- the line that a text without bytes and numbers spells
 unfoldable pub bare_of : List ℕ → Option Line
@@ -80,8 +80,8 @@ done_of text = do
 -- the line that a text spells
 unfoldable pub line_of : List ℕ → Option Line
 line_of text =
-    or_else (bare_of text) (λ line. Some line)
-    (or_else (behind (codes "client ") text) (λ word. option_map Client (bytes_of word))
-    (or_else (behind (codes "broker ") text) (λ word. option_map Broker (bytes_of word))
-    (or_else (behind (codes "done ") text) done_of
-    (or_else (behind (codes "fault authority ") text) (λ word. option_map FaultAuthority (number_of (2 ^ 64) word)) None))))
+    read_or (bare_of text) (λ line. Some line)
+    (read_or (rest_after (codes "client ") text) (λ word. option_map Client (bytes_of word))
+    (read_or (rest_after (codes "broker ") text) (λ word. option_map Broker (bytes_of word))
+    (read_or (rest_after (codes "done ") text) done_of
+    (read_or (rest_after (codes "fault authority ") text) (λ word. option_map FaultAuthority (number_of (2 ^ 64) word)) None))))

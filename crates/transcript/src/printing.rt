@@ -2,7 +2,7 @@ ghost use Rattle.std.specs.Prelude.{◌≡◌, ◌≤◌, ◌++◌, codes, lengt
 ghost use Rattle.std.specs.Fmt.{decimal};
 ghost use Rattle.hex.specs.Hex.{encode_lower};
 ghost use Rattle.transcript.specs.Hex.{hex_text};
-ghost use Rattle.transcript.specs.Answers.{answer_text, AppendsFront};
+ghost use Rattle.transcript.specs.Answers.{answer_text, HasFrontAppended};
 ghost use Rattle.transcript.specs.declared.printing.TheConstants.{CHUNK};
 
 use crate::answer::Answer;
@@ -18,7 +18,7 @@ const CHUNK: usize = 512;
 #[tactic(auto, using(crate::proofs::Printed::printing))]
 pub fn print(answer: &Answer, out: &mut Writer) -> Result<(), NoMemory>
     ensures ok { OnOk result (out.new ≡ out.old ++ answer_text answer.now) }
-    ensures err { OnErr result (AppendsFront out.old out.new (answer_text answer.now)) }
+    ensures err { OnErr result (HasFrontAppended out.old out.new (answer_text answer.now)) }
 {
     match answer {
         Answer::Fine => put(out, b"ok"),
@@ -77,7 +77,7 @@ fn put_words<D: Display + Drop>(out: &mut Writer, words: D) -> Result<(), NoMemo
 #[tactic(auto, using(crate::proofs::Printed::printing))]
 fn put_bytes(out: &mut Writer, bytes: &[u8]) -> Result<(), NoMemory>
     ensures ok { OnOk result (out.new ≡ out.old ++ hex_text bytes.now) }
-    ensures err { OnErr result (AppendsFront out.old out.new (hex_text bytes.now)) }
+    ensures err { OnErr result (HasFrontAppended out.old out.new (hex_text bytes.now)) }
 {
     if bytes.is_empty() {
         return put(out, b"-");
@@ -89,7 +89,7 @@ fn put_bytes(out: &mut Writer, bytes: &[u8]) -> Result<(), NoMemory>
 #[tactic(auto, using(crate::proofs::Printed::printing))]
 fn put_digits(out: &mut Writer, bytes: &[u8]) -> Result<(), NoMemory>
     ensures ok { OnOk result (out.new ≡ out.old ++ encode_lower bytes.now) }
-    ensures err { OnErr result (AppendsFront out.old out.new (encode_lower bytes.now)) }
+    ensures err { OnErr result (HasFrontAppended out.old out.new (encode_lower bytes.now)) }
 {
     let mut rest = bytes;
     while !rest.is_empty() {

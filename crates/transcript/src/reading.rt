@@ -1,6 +1,6 @@
 ghost use Rattle.std.specs.Prelude.{◌≡◌, ◌==◌, ◌<◌, length, IfOk, IfSome, IsErrOf, MatchResult, option_map, position};
 ghost use Rattle.transcript.specs.Lines.{Spells};
-ghost use Rattle.transcript.specs.Reading.{Reads, bytes_of, word_of, bare_of, verdict_of, done_of, line_of};
+ghost use Rattle.transcript.specs.Reading.{IsReadAs, bytes_of, word_of, bare_of, verdict_of, done_of, line_of};
 
 use crate::line::{Line, LineFault};
 use crate::numbers::{number_u32, number_u64};
@@ -22,7 +22,7 @@ pub fn read_line(alloc: Global, line: &[u8]) -> Result<Line, LineFault>
 
 #[tactic(auto, unfolding(crate::specs::Reading::line_of))]
 fn read_text(alloc: Global, text: &[u8]) -> Result<Line, LineFault>
-    ensures { Reads result (line_of text.now) }
+    ensures { IsReadAs result (line_of text.now) }
 {
     if let Some(line) = bare_line(text) {
         return Ok(line);
@@ -73,7 +73,7 @@ fn bare_line(text: &[u8]) -> Option<Line>
 
 #[tactic(auto, unfolding(crate::specs::Reading::bytes_of))]
 fn read_bytes(alloc: Global, word: &[u8]) -> Result<Blob, LineFault>
-    ensures { Reads result (bytes_of word.now) }
+    ensures { IsReadAs result (bytes_of word.now) }
 {
     if word == b"-".as_slice() {
         return Ok(Blob::from_vec(Vec::new(alloc)));
@@ -107,7 +107,7 @@ fn next_word(text: &[u8]) -> Option<(&[u8], &[u8])>
 
 #[tactic(auto, unfolding(crate::specs::Reading::verdict_of))]
 fn read_verdict(alloc: Global, word: &[u8]) -> Result<Blob, LineFault>
-    ensures { Reads result (verdict_of word.now) }
+    ensures { IsReadAs result (verdict_of word.now) }
 {
     if word.len() > 2 * MOST_VERDICT {
         return Err(LineFault::BadLine);
@@ -118,7 +118,7 @@ fn read_verdict(alloc: Global, word: &[u8]) -> Result<Blob, LineFault>
 // The words behind `done`: the request, the number of its ask and the verdict.
 #[tactic(auto, unfolding(crate::specs::Reading::done_of))]
 fn read_done(alloc: Global, words: &[u8]) -> Result<Line, LineFault>
-    ensures { Reads result (done_of words.now) }
+    ensures { IsReadAs result (done_of words.now) }
 {
     let (first, others) = next_word(words).ok_or(LineFault::BadLine)?;
     let (second, third) = next_word(others).ok_or(LineFault::BadLine)?;

@@ -1,13 +1,14 @@
 -- What was spelled is read again, and no spelling begins another one.
 use Rattle.std.proofs.Common.{◌≡◌, ℕ, ◌<◌, ◌≤◌, ◌^◌, false, ltb, List, ◌++◌, length, take, drop, Some, None, refl, sym, ap, ◌∙◌, append_assoc, arith, ℤ, pos, negsuc, FitsSigned, rules}
-use Rattle.std.specs.Int.{w16, w32, cast_unsigned, cast_signed, from_be_bytes}
+use Rattle.std.specs.Int.{w8, w16, w32, w64, cast_unsigned, cast_signed, to_be_bytes, from_be_bytes}
 use Rattle.std.proofs.lemmas.Bool.{le-ltb}
 use Rattle.std.proofs.lemmas.List.{length-append, take_at, drop_at}
-use Rattle.std.proofs.lemmas.Nat.{from_be_bytes-to_be_bytes_2, from_be_bytes-to_be_bytes_4}
+use Rattle.std.proofs.lemmas.Nat.{from_be_bytes-to_be_bytes_2, from_be_bytes-to_be_bytes_4, from_be_bytes-to_be_bytes_8}
 use Rattle.std.proofs.lemmas.Int.{to_z-of_z}
 use Rattle.std.proofs.Math.Facts.{Fits-of_z}
-use Rattle.wire_types.specs.Numbers.{int16, int32, int16_at, int32_at}
+use Rattle.wire_types.specs.Numbers.{int8, int16, int32, int64, number_at, int16_at, int32_at}
 use Rattle.wire_types.specs.Strings.{string, IsString}
+use Rattle.wire_types.specs.Lengths.{byte_string, IsByteString, array_count, IsCount}
 use Rattle.wire_types.specs.OneSpelling.{OneSpelling}
 
 -- ---- numbers
@@ -75,3 +76,74 @@ one_string (Some a) (Some b) x y p q e =
     let len : length a ≡ length b = pos_is _ _ one.0 in
     let same = same_front a b x y len one.1 in
     (ap Some same.0, same.1)
+
+-- ---- the other numbers
+
+below8 : (z : ℤ) → FitsSigned w8 z → cast_unsigned w8 z < 2 ^ 8
+below8 z fits = (Fits-of_z fits).fits
+
+below64 : (z : ℤ) → FitsSigned w64 z → cast_unsigned w64 z < 2 ^ 64
+below64 z fits = (Fits-of_z fits).fits
+
+one_byte : (n : ℕ) → n < 2 ^ 8 → from_be_bytes w8 (to_be_bytes w8 n) ≡ n
+one_byte n h = omega arith
+
+int8_at-int8 : (z : ℤ) (rest : List ℕ) → FitsSigned w8 z → number_at w8 (int8 z ++ rest) ≡ Some z
+int8_at-int8 z rest fits =
+    let long : ltb (length (int8 z ++ rest)) 1 ≡ false = le-ltb _ _ (omega (arith, length-append (int8 z) rest)) in
+    let back : from_be_bytes w8 (int8 z) ≡ cast_unsigned w8 z = one_byte (cast_unsigned w8 z) (below8 z fits) in
+    rw long (ap Some (ap (cast_signed w8) back ∙ to_z-of_z w8 z fits))
+
+int64_at-int64 : (z : ℤ) (rest : List ℕ) → FitsSigned w64 z → number_at w64 (int64 z ++ rest) ≡ Some z
+int64_at-int64 z rest fits =
+    let long : ltb (length (int64 z ++ rest)) 8 ≡ false = le-ltb _ _ (omega (arith, length-append (int64 z) rest)) in
+    let back : from_be_bytes w64 (int64 z) ≡ cast_unsigned w64 z = from_be_bytes-to_be_bytes_8 (cast_unsigned w64 z) (below64 z fits) in
+    rw long (ap Some (ap (cast_signed w64) back ∙ to_z-of_z w64 z fits))
+
+pub one_int8 : OneSpelling int8 (FitsSigned w8)
+one_int8 a b x y p q e =
+    (some_is a b (sym (int8_at-int8 a x p) ∙ ap (number_at w8) e ∙ int8_at-int8 b y q), ap (drop 1) e)
+
+pub one_int64 : OneSpelling int64 (FitsSigned w64)
+one_int64 a b x y p q e =
+    (some_is a b (sym (int64_at-int64 a x p) ∙ ap (number_at w64) e ∙ int64_at-int64 b y q), ap (drop 8) e)
+
+-- ---- bytes and counts
+
+fits_no_length : FitsSigned w32 (negsuc 0)
+fits_no_length = search rules
+
+fits_count : (n : ℕ) → n ≤ 2147483647 → FitsSigned w32 (pos n)
+fits_count n h = search rules
+
+no_bytes_are_null : (b x y : List ℕ) → length b ≤ 2147483647 → int32 (negsuc 0) ++ x ≡ byte_string (Some b) ++ y → ⊥
+no_bytes_are_null b x y h e =
+    let one = one_int32 (negsuc 0) (pos (length b)) x (b ++ y) fits_no_length (fits_count (length b) h) (e ∙ append_assoc (int32 (pos (length b))) b y) in
+    let apart : negsuc 0 ≡ pos (length b) = one.0 in
+    cc
+
+pub one_byte_string : OneSpelling byte_string IsByteString
+one_byte_string None None x y p q e = (refl, (one_int32 (negsuc 0) (negsuc 0) x y fits_no_length fits_no_length e).1)
+one_byte_string None (Some b) x y p q e = absurd (no_bytes_are_null b x y q e)
+one_byte_string (Some a) None x y p q e = absurd (no_bytes_are_null a y x p (sym e))
+one_byte_string (Some a) (Some b) x y p q e =
+    let e' : int32 (pos (length a)) ++ (a ++ x) ≡ int32 (pos (length b)) ++ (b ++ y) = sym (append_assoc (int32 (pos (length a))) a x) ∙ e ∙ append_assoc (int32 (pos (length b))) b y in
+    let one = one_int32 (pos (length a)) (pos (length b)) (a ++ x) (b ++ y) (fits_count (length a) p) (fits_count (length b) q) e' in
+    let len : length a ≡ length b = pos_is _ _ one.0 in
+    let same = same_front a b x y len one.1 in
+    (ap Some same.0, same.1)
+
+no_count_is_null : (n : ℕ) (x y : List ℕ) → n ≤ 2147483647 → int32 (negsuc 0) ++ x ≡ int32 (pos n) ++ y → ⊥
+no_count_is_null n x y h e =
+    let one = one_int32 (negsuc 0) (pos n) x y fits_no_length (fits_count n h) e in
+    let apart : negsuc 0 ≡ pos n = one.0 in
+    cc
+
+pub one_array_count : OneSpelling array_count IsCount
+one_array_count None None x y p q e = (refl, (one_int32 (negsuc 0) (negsuc 0) x y fits_no_length fits_no_length e).1)
+one_array_count None (Some b) x y p q e = absurd (no_count_is_null b x y q e)
+one_array_count (Some a) None x y p q e = absurd (no_count_is_null a y x p (sym e))
+one_array_count (Some a) (Some b) x y p q e =
+    let one = one_int32 (pos a) (pos b) x y (fits_count a p) (fits_count b q) e in
+    let same : a ≡ b = pos_is a b one.0 in
+    (ap Some same, one.1)

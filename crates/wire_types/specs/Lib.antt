@@ -1,4 +1,5 @@
 pub mod Numbers
 pub mod Strings
+pub mod Lengths
 pub mod OneSpelling
 pub mod Reading

@@ -4,9 +4,13 @@
 //! again in the same order:
 //!
 //! ```text
+//!   INT8    1 byte, two's complement
 //!   INT16   2 bytes, big-endian two's complement
 //!   INT32   4 bytes, big-endian two's complement
+//!   INT64   8 bytes, big-endian two's complement
 //!   STRING  INT16 length, then that many bytes; length -1 is null
+//!   BYTES   INT32 length, then that many bytes; length -1 is null
+//!   ARRAY   INT32 count, then that many entries; count -1 is null
 //! ```
 //!
 //! What the items mean, in which order a message has them, and whether a STRING is text are left to

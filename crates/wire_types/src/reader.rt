@@ -1,8 +1,9 @@
 ghost use Rattle.std.specs.Prelude.{◌≡◌, ℕ, ℤ, ◌<◌, ◌≤◌, ◌↔◌, List, Option, ◌++◌, length, FitsSigned, IsErrOf, IfOk, IsOkAnd, IfErr, OnErr};
 ghost use Rattle.std.specs.Option.{option_copied};
-ghost use Rattle.std.specs.Int.{w16, w32};
-ghost use Rattle.wire_types.specs.Numbers.{int16, int32, int16_at};
+ghost use Rattle.std.specs.Int.{w8, w16, w32, w64};
+ghost use Rattle.wire_types.specs.Numbers.{int8, int16, int32, int64, int16_at, int32_at};
 ghost use Rattle.wire_types.specs.Strings.{string, IsString};
+ghost use Rattle.wire_types.specs.Lengths.{byte_string, IsByteString, array_count, IsCount};
 ghost use Rattle.wire_types.specs.Reading.{Reads, unread, need, IsBadLength, place_of};
 
 use crate::read_fault::ReadFault;
@@ -50,6 +51,20 @@ impl<'a> Reader<'a> {
         self.bytes.len() - self.at
     }
 
+    /// Reads an INT8.
+    pub fn i8(&mut self) -> Result<i8, ReadFault>
+        ensures ok { IfOk result (λ value. Reads self.old (int8 value) self.new) }
+        ensures spelled_is_read { (value : ℤ) (rest : List ℕ) → FitsSigned w8 value
+            → unread self.old ≡ int8 value ++ rest → result ≡ Ok value }
+        ensures short { IsErrOf result (ReadFault.Short self.old.at)
+            ↔ (length (unread self.old) < 1) }
+        ensures no_other { IfErr result (λ fault. fault ≡ ReadFault.Short self.old.at) }
+        ensures err { OnErr result (self.new ≡ self.old) }
+    {
+        let bytes = self.take(1)?;
+        Ok(i8::from_be_bytes([bytes[0]]))
+    }
+
     /// Reads an INT16.
     pub fn i16(&mut self) -> Result<i16, ReadFault>
         ensures ok { IfOk result (λ value. Reads self.old (int16 value) self.new) }
@@ -76,6 +91,20 @@ impl<'a> Reader<'a> {
     {
         let bytes = self.take(4)?;
         Ok(i32::from_be_bytes([bytes[0], bytes[1], bytes[2], bytes[3]]))
+    }
+
+    /// Reads an INT64.
+    pub fn i64(&mut self) -> Result<i64, ReadFault>
+        ensures ok { IfOk result (λ value. Reads self.old (int64 value) self.new) }
+        ensures spelled_is_read { (value : ℤ) (rest : List ℕ) → FitsSigned w64 value
+            → unread self.old ≡ int64 value ++ rest → result ≡ Ok value }
+        ensures short { IsErrOf result (ReadFault.Short self.old.at)
+            ↔ (length (unread self.old) < 8) }
+        ensures no_other { IfErr result (λ fault. fault ≡ ReadFault.Short self.old.at) }
+        ensures err { OnErr result (self.new ≡ self.old) }
+    {
+        let bytes = self.take(8)?;
+        Ok(int64_of(bytes))
     }
 
     /// Reads a STRING. `None` is null.
@@ -112,6 +141,66 @@ impl<'a> Reader<'a> {
         }
     }
 
+    /// Reads BYTES. `None` is null.
+    pub fn bytes(&mut self) -> Result<Option<&'a [u8]>, ReadFault>
+        ensures ok { IfOk result
+            (λ found. Reads self.old (byte_string (option_copied found)) self.new) }
+        ensures fits { IfOk result (λ found. IsByteString (option_copied found)) }
+        ensures spelled_is_read { (value : Option (List ℕ)) (rest : List ℕ) → IsByteString value
+            → unread self.old ≡ byte_string value ++ rest
+            → IsOkAnd result (λ found. option_copied found ≡ value) }
+
+        // A bad length is one that is there; else the item is short.
+        ensures bad_length { IsErrOf result (ReadFault.BadLength self.old.at)
+            ↔ IsBadLength (int32_at (unread self.old)) }
+        ensures short { IsErrOf result (ReadFault.Short self.old.at)
+            ↔ (length (unread self.old) < need 4 (int32_at (unread self.old))) }
+        ensures place { IfErr result (λ fault. place_of fault ≡ self.old.at) }
+        ensures err { OnErr result (self.new ≡ self.old) }
+    {
+        let at = self.at;
+        let size = self.i32()?;
+        if size == -1 {
+            return Ok(None);
+        }
+        if size < 0 {
+            self.at = at;
+            return Err(ReadFault::BadLength { at });
+        }
+        match self.take(size as usize) {
+            Ok(found) => Ok(Some(found)),
+            Err(_) => {
+                self.at = at;
+                Err(ReadFault::Short { at })
+            }
+        }
+    }
+
+    /// Reads the count of an ARRAY's entries. `None` is null.
+    pub fn count(&mut self) -> Result<Option<u32>, ReadFault>
+        ensures ok { IfOk result (λ found. Reads self.old (array_count found) self.new) }
+        ensures fits { IfOk result (λ found. IsCount found) }
+        ensures spelled_is_read { (value : Option ℕ) (rest : List ℕ) → IsCount value
+            → unread self.old ≡ array_count value ++ rest → result ≡ Ok value }
+        ensures bad_length { IsErrOf result (ReadFault.BadLength self.old.at)
+            ↔ IsBadLength (int32_at (unread self.old)) }
+        ensures short { IsErrOf result (ReadFault.Short self.old.at)
+            ↔ (length (unread self.old) < 4) }
+        ensures place { IfErr result (λ fault. place_of fault ≡ self.old.at) }
+        ensures err { OnErr result (self.new ≡ self.old) }
+    {
+        let at = self.at;
+        let count = self.i32()?;
+        if count == -1 {
+            return Ok(None);
+        }
+        if count < 0 {
+            self.at = at;
+            return Err(ReadFault::BadLength { at });
+        }
+        Ok(Some(count as u32))
+    }
+
     // The next `count` bytes.
     fn take(&mut self, count: usize) -> Result<&'a [u8], ReadFault>
         ensures ok { IfOk result
@@ -128,4 +217,14 @@ impl<'a> Reader<'a> {
         self.at = at + count;
         Ok(&self.bytes[at..at + count])
     }
+}
+
+// The number that eight bytes spell.
+fn int64_of(bytes: &[u8]) -> i64
+    requires { length bytes.now ≡ 8 }
+    ensures { int64 result ≡ bytes.now }
+{
+    i64::from_be_bytes([
+        bytes[0], bytes[1], bytes[2], bytes[3], bytes[4], bytes[5], bytes[6], bytes[7],
+    ])
 }

@@ -1,7 +1,8 @@
-ghost use Rattle.std.specs.Prelude.{◌≡◌, ◌++◌, ◌↔◌, ℕ, [], length, take, IsTrue, IsErrOf, IsOk, IfOk, OnOk, OnErr};
+ghost use Rattle.std.specs.Prelude.{◌≡◌, ◌++◌, ◌↔◌, ℕ, [], ◌<◌, length, take, IsTrue, IsErrOf, IsOk, IfOk, OnOk, OnErr};
 ghost use Rattle.std.specs.Option.{option_copied};
-ghost use Rattle.wire_types.specs.Numbers.{int16, int32};
+ghost use Rattle.wire_types.specs.Numbers.{int8, int16, int32, int64};
 ghost use Rattle.wire_types.specs.Strings.{string, IsTooLong};
+ghost use Rattle.wire_types.specs.Lengths.{byte_string, IsTooManyBytes, array_count, IsTooManyEntries};
 
 use crate::no_memory::NoMemory;
 use crate::put_fault::PutFault;
@@ -11,6 +12,11 @@ use std::marker::Model;
 
 // The greatest length that an INT16 says.
 const MAX_TEXT: usize = 32767;
+
+// The greatest length, or count, that an INT32 says.
+const MAX_LENGTH: usize = 2147483647;
+
+const MAX_COUNT: u32 = 2147483647;
 
 /// Bytes that grow at their end, by one spelled item at a time.
 #[derive(Drop)]
@@ -34,6 +40,15 @@ impl Writer {
         Writer {
             bytes: Vec::new(alloc),
         }
+    }
+
+    /// An empty writer with room for `capacity` bytes.
+    pub fn with_capacity(alloc: Global, capacity: usize) -> Result<Writer, NoMemory>
+        ensures { IfOk result (λ writer. writer ≡ []) }
+    {
+        Ok(Writer {
+            bytes: Vec::with_capacity(alloc, capacity)?,
+        })
     }
 
     /// How many bytes are written.
@@ -80,6 +95,16 @@ impl Writer {
         Ok(())
     }
 
+    /// Appends an INT8.
+    pub fn put_i8(&mut self, value: i8) -> Result<(), PutFault>
+        ensures ok { OnOk result (self.new ≡ self.old ++ int8 value) }
+        ensures err { OnErr result (self.new ≡ self.old) }
+        ensures only { OnErr result (result ≡ Err PutFault.NoMemory) }
+    {
+        self.put_all(&value.to_be_bytes())?;
+        Ok(())
+    }
+
     /// Appends an INT16.
     pub fn put_i16(&mut self, value: i16) -> Result<(), PutFault>
         ensures ok { OnOk result (self.new ≡ self.old ++ int16 value) }
@@ -100,6 +125,16 @@ impl Writer {
         Ok(())
     }
 
+    /// Appends an INT64.
+    pub fn put_i64(&mut self, value: i64) -> Result<(), PutFault>
+        ensures ok { OnOk result (self.new ≡ self.old ++ int64 value) }
+        ensures err { OnErr result (self.new ≡ self.old) }
+        ensures only { OnErr result (result ≡ Err PutFault.NoMemory) }
+    {
+        self.put_all(&value.to_be_bytes())?;
+        Ok(())
+    }
+
     /// Appends a STRING. `None` is null.
     pub fn put_string(&mut self, value: Option<&[u8]>) -> Result<(), PutFault>
         ensures ok { OnOk result (self.new ≡ self.old ++ string (option_copied value.entry)) }
@@ -110,6 +145,35 @@ impl Writer {
         match value {
             Some(text) => self.put_text(text),
             None => self.put_i16(-1),
+        }
+    }
+
+    /// Appends BYTES. `None` is null.
+    pub fn put_bytes(&mut self, value: Option<&[u8]>) -> Result<(), PutFault>
+        ensures ok { OnOk result (self.new ≡ self.old ++ byte_string (option_copied value.entry)) }
+        ensures too_long { (length : ℕ) → IsErrOf result (PutFault.TooLong length)
+            ↔ (IsTooManyBytes (option_copied value.entry) length) }
+        ensures err { OnErr result (self.new ≡ self.old) }
+    {
+        match value {
+            Some(found) => self.put_long(found),
+            None => self.put_i32(-1),
+        }
+    }
+
+    /// Appends the count of an ARRAY's entries. `None` is null.
+    pub fn put_count(&mut self, value: Option<u32>) -> Result<(), PutFault>
+        ensures ok { OnOk result (self.new ≡ self.old ++ array_count value) }
+        ensures too_long { (length : ℕ) → IsErrOf result (PutFault.TooLong length)
+            ↔ (IsTooManyEntries value length) }
+        ensures err { OnErr result (self.new ≡ self.old) }
+    {
+        match value {
+            Some(count) if count > MAX_COUNT => Err(PutFault::TooLong {
+                length: u64::from(count),
+            }),
+            Some(count) => self.put_i32(count as i32),
+            None => self.put_i32(-1),
         }
     }
 
@@ -137,6 +201,26 @@ impl Writer {
         let put = self.put_all(text);
         if put.is_err() {
             self.bytes.truncate(start);
+        }
+        Ok(put?)
+    }
+
+    fn put_long(&mut self, found: &[u8]) -> Result<(), PutFault>
+        ensures ok { OnOk result (self.new ≡ self.old ++ byte_string (Some found.now)) }
+        ensures too_long { (length : ℕ) → IsErrOf result (PutFault.TooLong length)
+            ↔ (IsTooManyBytes (Some found.now) length) }
+        ensures err { OnErr result (self.new ≡ self.old) }
+    {
+        if found.len() > MAX_LENGTH {
+            return Err(PutFault::TooLong {
+                length: found.len() as u64,
+            });
+        }
+        let before = self.bytes.len();
+        self.put_i32(found.len() as i32)?;
+        let put = self.put_all(found);
+        if put.is_err() {
+            self.bytes.truncate(before);
         }
         Ok(put?)
     }

@@ -1,4 +1,4 @@
-use Rattle.framing.proofs.Runs.{place, so_far, each, all}
+use Rattle.framing.proofs.FramerHistory.{place, so_far, each, all}
 use Rattle.framing.proofs.laws.frames_of_a_run.Goals as goal
 
 pub returns-clause-place : goal.returns-clause-place

@@ -1,0 +1,4 @@
+pub mod Counting
+pub mod Windows
+pub mod WindowOf
+pub mod IsWindow

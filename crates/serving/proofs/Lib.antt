@@ -1,0 +1,17 @@
+pub mod Places
+pub mod Same
+pub mod Owed
+pub mod Asks
+pub mod Settle
+pub mod Sweeping
+pub mod Notes
+pub mod Holds
+pub mod Ends
+pub mod Giving
+pub mod Follows
+pub mod Takes
+pub mod Responses
+pub mod Passing
+pub mod Free
+pub mod Resting
+pub mod Picking

@@ -1,0 +1,36 @@
+use Rattle.conn_rules.specs.Room.{limited}
+use Rattle.serving.specs.Listing.{FlightSettlesFrom}
+use Rattle.std.proofs.Common.{subst, length, ◌≡◌, ◌∙◌, ap, sym, refl, Some, None, arith, ℕ, ◌+◌, ◌<◌, ◌^◌, ◌++◌, ◌∷◌, []}
+use Rattle.conn_rules.specs.Causes.{with_cut}
+use Rattle.serving.specs.Causes.{why_of}
+use Rattle.serving.specs.Slots.{fresh_slot}
+use Rattle.serving.proofs.connection.Serving.accept.Goals as goal
+
+pub returns-in-Refused-clause-takes : goal.returns-in-Refused-clause-takes
+returns-in-Refused-clause-takes g c = (Some c.in-Refused.cause, (rw c.in-Refused.is at c.in_ok-cause.ensures, rw (c.cut_at.ensures, c.at.ensures) refl))
+
+pub returns-clause-takes : goal.returns-clause-takes
+returns-clause-takes g c =
+    let begun = rw c.in-Runs.is at c.in_ok-cause.ensures in
+    let f = c.args.self.now.flight in (
+      None,
+      (
+        record f { slots = c.push_back.new.self },
+        record {
+          silent = c.in-Runs.silent;
+          progress = c.in-Runs.progress;
+          no_cause = begun.0;
+          silent_is = begun.1;
+          right = begun.2;
+          rest = record { limit_is = refl; count = refl; held = refl; requests = refl; causes = refl; sends = refl };
+          slots = c.in_ok-push_back.ensures.items ∙ ap (λ x. f.slots.items ++ x ∷ []) (c.begun.ensures ∙ ap (λ n. fresh_slot n c.in-Runs.silent c.in-Runs.progress) c.len-size.ensures.value);
+        },
+        record {
+          small = c.in-Some-Some-Some.ensures.0;
+          settled = c.settle.new.flight;
+          settles = subst (λ n. (limit : ℕ) → FlightSettlesFrom (limited limit (g.S.Service.meaning c.args.self.now.service)) (g.S.Service.stands c.args.self.now.service) n (record f { slots = c.push_back.new.self }) c.settle.new.flight) (let e : c.len-last.result ≡ length f.slots.items = omega (arith, c.len-last.ensures) in e) c.in_ok-settle.ensures.settles;
+          outside = c.in_ok-settle.ensures.outside;
+          new_is = rw (c.in-Some-Some-Some.ensures.1, c.in-Some-Some-Some.ensures'.1, c.in-Some-Some-Some.ensures''.1, c.len-size.ensures.value) refl;
+        },
+      ),
+    )

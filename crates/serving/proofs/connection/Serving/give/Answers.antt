@@ -1,0 +1,50 @@
+use Rattle.std.proofs.Common.{rules, ◌≡◌, ◌∙◌, ap, sym, refl, subst, ℕ, ◌≤◌, ◌-◌, arith, Bool, true, false, Result, Ok, Err, slice_get}
+use Rattle.std.specs.Prelude.{OnOk, MatchBool}
+use Rattle.conn_rules.specs.Room.{limited}
+use Rattle.conn_rules.specs.State.{Outside}
+use Rattle.serving.specs.Services.{outside_of}
+use Rattle.serving.specs.Flights.{first_of}
+use Rattle.serving.specs.Slots.{rests_in}
+use Rattle.serving.specs.Listing.{GivesAt, FlightSettles, FlightSettlesFrom}
+use Rattle.serving.proofs.Sweeping.{from_first}
+use Rattle.serving.proofs.connection.Serving.give.Goals as goal
+
+on_ok : {T E P Q : Type 0} → (r : Result T E) → (P → Q) → OnOk r P → OnOk r Q
+on_ok (Ok x) f h = f h
+on_ok (Err e) f h = h
+
+if_true : (P Q : Type 0) (b : Bool) → b ≡ true → P → MatchBool b P Q
+if_true P Q true is h = h
+if_true P Q false is h = cc
+
+if_false : (P Q : Type 0) (b : Bool) → b ≡ false → Q → MatchBool b P Q
+if_false P Q true is h = cc
+if_false P Q false is h = h
+
+pub returns-then-rests_at-clause-gives : goal.returns-then-rests_at-clause-gives
+returns-then-rests_at-clause-gives g c =
+    let f = c.args.self.now.flight in
+    let mid = c.give.new.flight in
+    let place : c.in-Some.place ≡ c.args.request - first_of f = omega (arith, c.in-Some.ensures, c.first.ensures.first) in
+    let rest : rests_in (slice_get mid.slots.items (c.args.request - first_of f)) ≡ true = ap (λ n. rests_in (slice_get mid.slots.items n)) (sym place) ∙ sym c.if-rests_at.ensures in
+    record {
+      small = c.first.ensures.small;
+      mid = mid;
+      in_flight = omega (arith, c.in-Some.ensures, c.first.ensures.first);
+      gives = subst (λ n. GivesAt (g.S.Service.meaning c.args.self.now.service) (g.S.Service.stands c.args.self.now.service) n (outside_of c.args.given) f mid) place c.in_ok-give.ensures.gives;
+      settles = if_true (mid ≡ mid) ((limit : ℕ) → FlightSettles (limited limit (g.S.Service.meaning c.args.self.now.service)) (g.S.Service.stands c.args.self.now.service) mid mid) _ rest refl;
+    }
+
+pub returns-clause-gives : goal.returns-clause-gives
+returns-clause-gives g c =
+    let f = c.args.self.now.flight in
+    let mid = c.give.new.flight in
+    let place : c.in-Some.place ≡ c.args.request - first_of f = omega (arith, c.in-Some.ensures, c.first.ensures.first) in
+    let rest : rests_in (slice_get mid.slots.items (c.args.request - first_of f)) ≡ false = ap (λ n. rests_in (slice_get mid.slots.items n)) (sym place) ∙ sym c.if-rests_at.ensures in
+    on_ok c.settle.result (λ settles. record {
+      small = c.first.ensures.small;
+      mid = mid;
+      in_flight = omega (arith, c.in-Some.ensures, c.first.ensures.first);
+      gives = subst (λ n. GivesAt (g.S.Service.meaning c.args.self.now.service) (g.S.Service.stands c.args.self.now.service) n (outside_of c.args.given) f mid) place c.in_ok-give.ensures.gives;
+      settles = if_false (c.settle.new.flight ≡ mid) ((limit : ℕ) → FlightSettles (limited limit (g.S.Service.meaning c.args.self.now.service)) (g.S.Service.stands c.args.self.now.service) mid c.settle.new.flight) _ rest (λ limit. from_first (limited limit (g.S.Service.meaning c.args.self.now.service)) (g.S.Service.stands c.args.self.now.service) mid c.settle.new.flight (settles limit));
+    }) c.settle.ensures.settles

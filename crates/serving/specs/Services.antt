@@ -1,0 +1,54 @@
+-- What a service answers is what its meaning says.
+use Rattle.std.specs.Prelude.{◌≡◌, ℕ, suc, Bool, true, false, List, [], Option, Some, None}
+use Rattle.kp_edge.specs.declared.end.End.{End}
+use Rattle.conn_rules.specs.Meaning.{Meaning, ToBroker, Hold, Status, Waits, Done, Fails}
+use Rattle.conn_rules.specs.State.{Outside, Body, NoResponse, Verdict}
+use Rattle.serving.specs.declared.cause.Cause.{Cause}
+use Rattle.serving.specs.declared.frame.WholeFrame.{WholeFrame}
+use Rattle.serving.specs.declared.given.Given.{Given}
+use Rattle.serving.specs.declared.given.Given.TheVariants as given
+use Rattle.serving.specs.declared.message.Message.{Message}
+use Rattle.serving.specs.declared.progress.Begun.{Begun}
+use Rattle.serving.specs.declared.progress.Begun.TheVariants as begun
+use Rattle.serving.specs.declared.progress.Progress.{Progress}
+use Rattle.serving.specs.declared.progress.Progress.TheVariants as progress
+use Rattle.serving.specs.Causes.{why_of}
+
+-- what the machine calls what a request is given
+abbrev pub outside_of : Given → Outside
+outside_of (given.Body bytes) = Body bytes
+outside_of given.NoResponse = NoResponse
+outside_of (given.Verdict bytes) = Verdict bytes
+
+abbrev pub cause_function : Option Cause → Option (ℕ → End)
+cause_function None = None
+cause_function (Some cause) = Some (why_of cause)
+
+-- a request waits for this message to be sent
+abbrev pub awaits_answer_to : Message → Status
+awaits_answer_to m = Waits (ToBroker m.before m.behind m.main m.responds)
+
+-- A request is done with this response: a silent one with no bytes, any other with a whole frame.
+abbrev pub IsDone : Bool → Status → Option WholeFrame → Type 0
+IsDone silent status None = (silent ≡ true) × (status ≡ Done [])
+IsDone silent status (Some frame) = (silent ≡ false) × (status ≡ Done frame.bytes)
+
+module _ {R : Type 0} (M : Meaning) (runs : R → List ℕ → List Outside → Type 0) where
+  -- a request with this frame that was given so much has come so far
+  abbrev pub IsProgress : List ℕ → List Outside → Progress R → Type 0
+  IsProgress frame given (progress.Sends message run) = (M.status frame given ≡ awaits_answer_to message) × runs run frame given
+  IsProgress frame given (progress.Holds key run) = (M.status frame given ≡ Waits (Hold key)) × runs run frame given
+  IsProgress frame given (progress.Done response) = IsDone (M.silent frame) (M.status frame given) response
+  IsProgress frame given (progress.Failed cause) = M.status frame given ≡ Fails (why_of cause)
+
+  -- a client's frame is no request, or begins one
+  abbrev pub Begins : List ℕ → Begun R → Type 0
+  Begins frame (begun.Refused cause) = M.no_request frame ≡ Some (why_of cause)
+  Begins frame (begun.Runs silent p) = (M.no_request frame ≡ None) × (M.silent frame ≡ silent) × IsProgress frame [] p
+
+-- how often a request that has come so far may still wait, by how often its run may wait again
+abbrev pub progress_left : {R : Type 0} → (R → ℕ) → Progress R → ℕ
+progress_left left (progress.Sends message run) = suc (left run)
+progress_left left (progress.Holds key run) = suc (left run)
+progress_left left (progress.Done response) = 0
+progress_left left (progress.Failed cause) = 0

@@ -1,0 +1,44 @@
+ghost use Rattle.std.specs.Prelude.{◌≡◌, ◌≤◌, ◌++◌, ◌∷◌, [], ℕ, List, length, IfOk};
+ghost use Rattle.conn_rules.specs.Meaning.{Meaning};
+ghost use Rattle.conn_rules.specs.State.{Outside};
+ghost use Rattle.serving.specs.Services.{Begins, IsProgress, outside_of, cause_function, progress_left};
+
+use crate::cause::Cause;
+use crate::given::Given;
+use crate::progress::{Begun, Progress};
+use bytes::Bytes;
+use kp_edge::{NoMemory, Steps};
+
+/// What requests mean, as code. A request is begun once, and goes on each time that it is given what it waits for.
+pub trait Service: Drop {
+    /// A request that waits.
+    type Run: Drop;
+
+    /// What requests mean. Its room is not this trait's: a connection has a limit of its own.
+    ghost meaning: { Self → Meaning };
+
+    /// Which runs are those of a request with this frame that was given so much.
+    ghost stands: { Self → Self.Run → List ℕ → List Outside → Type 0 };
+
+    /// How often a run may wait once more, at most.
+    ghost left: { Self → Self.Run → ℕ };
+
+    /// A client's frame, without its size.
+    fn begin<L>(&self, frame: &Bytes, steps: &mut Steps<L>) -> Result<Begun<Self::Run>, NoMemory>
+        requires { 8 ≤ length frame.now }
+        ensures { IfOk result (λ begun. Begins (meaning self.now) (stands self.now) frame.now begun) };
+
+    /// The request is given what it waited for.
+    fn go_on<L>(
+        &self,
+        run: Self::Run,
+        given: Given,
+        steps: &mut Steps<L>,
+    ) -> Result<Progress<Self::Run>, NoMemory>
+        ensures right { IfOk result (λ progress. (frame : List ℕ) (before : List Outside) → stands self.now run frame before → IsProgress (meaning self.now) (stands self.now) frame (before ++ outside_of given ∷ []) progress) }
+        ensures fewer { IfOk result (λ progress. progress_left (left self.now) progress ≤ left self.now run) };
+
+    /// Why the body of a response can't be read, by the key and the version of its request.
+    fn unreadable(&self, before: [u8; 4], body: &[u8]) -> Result<Option<Cause>, NoMemory>
+        ensures { IfOk result (λ cause. cause_function cause ≡ (meaning self.now).unreadable before body.now) };
+}

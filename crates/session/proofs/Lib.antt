@@ -1,0 +1,5 @@
+pub mod Frames
+pub mod Handing
+pub mod Pieces
+pub mod Streaming
+pub mod Showing

@@ -1,0 +1,5 @@
+pub mod Peers
+pub mod Streams
+pub mod Pushes
+pub mod Calls
+pub mod Sides

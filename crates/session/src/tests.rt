@@ -1,0 +1,355 @@
+use self::noting::{LONG, Noting};
+use super::*;
+use conn_rules::{Emit, Fault};
+use kp_edge::{Blob, NoMemory, Steps};
+use std::alloc::Global;
+use std::test::*;
+
+mod noting;
+
+// A call of a station.
+enum Call {
+    Client(&'static [u8]),
+    Broker(&'static [u8]),
+    ClientEnd,
+    BrokerEnd,
+    Retake,
+    Emit,
+    Done(u64, u32, &'static [u8]),
+    Fault(Fault),
+}
+
+// Calls one after another with what is told of each, and what the connection was told in all.
+struct Case {
+    name: &'static str,
+    calls: &'static [(Call, &'static str)],
+    notes: &'static str,
+}
+
+const CASES: &[Case] = &[
+    Case {
+        name: "a frame in one piece",
+        calls: &[(Call::Client(b"\0\0\0\x08request+"), "fine")],
+        notes: "take request+; ",
+    },
+    Case {
+        name: "a frame in three pieces",
+        calls: &[
+            (Call::Client(b"\0\0"), "fine"),
+            (Call::Client(b"\0\x08requ"), "fine"),
+            (Call::Client(b""), "fine"),
+            (Call::Client(b"est+"), "fine"),
+        ],
+        notes: "take request+; ",
+    },
+    Case {
+        name: "two frames and a half in one piece",
+        calls: &[
+            (
+                Call::Client(b"\0\0\0\x08request+\0\0\0\x09request1+\0\0\0\x08req"),
+                "fine",
+            ),
+            (Call::Client(b"uest+"), "fine"),
+        ],
+        notes: "take request+; take request1+; take request+; ",
+    },
+    Case {
+        name: "a frame that finds no room is kept, and those behind it wait",
+        calls: &[
+            (
+                Call::Client(b"\0\0\0\x08request=\0\0\0\x09request1+"),
+                "full",
+            ),
+            (Call::Client(b"\0\0\0\x09request2+"), "full"),
+            (Call::Retake, "full"),
+            (Call::Emit, "later"),
+            (Call::Retake, "fine"),
+            (Call::Retake, "fine"),
+        ],
+        notes: "take request=; take request=; take request=; take request=; take request1+; take request2+; ",
+    },
+    Case {
+        name: "a refused frame, and one behind it",
+        calls: &[
+            (
+                Call::Client(b"\0\0\0\x08request-\0\0\0\x08request+"),
+                "closed",
+            ),
+            (Call::Client(b"\0\0\0\x08request+"), "fine"),
+            (Call::Client(b"\0"), "fine"),
+        ],
+        notes: "take request-; take request+; take request+; ",
+    },
+    Case {
+        name: "a full frame behind a refused one",
+        calls: &[(
+            Call::Client(b"\0\0\0\x08request-\0\0\0\x08request="),
+            "full",
+        )],
+        notes: "take request-; take request=; ",
+    },
+    Case {
+        name: "the connection finds no memory for a frame, and those behind it stay",
+        calls: &[
+            (
+                Call::Client(b"\0\0\0\x08request!\0\0\0\x08request+\0"),
+                "no-memory",
+            ),
+            (Call::Retake, "fine"),
+            (Call::Client(b"\0\0\x08request+"), "fine"),
+        ],
+        notes: "take request!; take request+; take request+; ",
+    },
+    Case {
+        name: "the client ends while whole frames are left for want of memory",
+        calls: &[
+            (
+                Call::Client(b"\0\0\0\x08request!\0\0\0\x08request+"),
+                "no-memory",
+            ),
+            (Call::ClientEnd, "fine"),
+            (Call::Retake, "fine"),
+        ],
+        notes: "take request!; take request+; client end 0; ",
+    },
+    Case {
+        name: "the client's sizes: one too small, at the front",
+        calls: &[
+            (Call::Client(b"\0\0\0\x07"), "fine"),
+            (Call::Client(b"\0"), "fine"),
+            (Call::ClientEnd, "fine"),
+        ],
+        notes: "client bad size 7 at 0; client end 5; ",
+    },
+    Case {
+        name: "the client's sizes: one below zero, behind a frame",
+        calls: &[(Call::Client(b"\0\0\0\x08request+\xff\xff\xff\xff"), "fine")],
+        notes: "take request+; client bad size -1 at 12; ",
+    },
+    Case {
+        name: "the client's sizes: the greatest",
+        calls: &[
+            (Call::Client(b"\x06\x40\0\0"), "fine"),
+            (Call::ClientEnd, "fine"),
+        ],
+        notes: "client end 4; ",
+    },
+    Case {
+        name: "the client's sizes: one too great",
+        calls: &[(Call::Client(b"\x06\x40\0\x01"), "fine")],
+        notes: "client bad size 104857601 at 0; ",
+    },
+    Case {
+        name: "a bad size behind a frame that is kept is told later",
+        calls: &[
+            (Call::Client(b"\0\0\0\x08request=\0\0\0\0"), "full"),
+            (Call::Emit, "later"),
+            (Call::Retake, "fine"),
+            (Call::Retake, "fine"),
+        ],
+        notes: "take request=; take request=; client bad size 0 at 12; ",
+    },
+    Case {
+        name: "the client ends at once",
+        calls: &[
+            (Call::ClientEnd, "fine"),
+            (Call::ClientEnd, "closed"),
+            (Call::Client(b"\0"), "closed"),
+            (Call::Retake, "fine"),
+        ],
+        notes: "client end 0; ",
+    },
+    Case {
+        name: "the client ends while a frame is kept",
+        calls: &[
+            (Call::Client(b"\0\0\0\x08request=\0\0\0"), "full"),
+            (Call::ClientEnd, "fine"),
+            (Call::Retake, "full"),
+            (Call::Emit, "later"),
+            (Call::Retake, "fine"),
+            (Call::Retake, "fine"),
+        ],
+        notes: "take request=; take request=; take request=; client end 3; ",
+    },
+    Case {
+        name: "the broker's frames",
+        calls: &[
+            (
+                Call::Broker(b"\0\0\0\x04res+\0\0\0\x04res-\0\0\0\x05resp+\0"),
+                "closed",
+            ),
+            (Call::Broker(b""), "fine"),
+            (Call::BrokerEnd, "fine"),
+            (Call::BrokerEnd, "closed"),
+            (Call::Broker(b"\0"), "closed"),
+        ],
+        notes: "answer res+; answer res-; answer resp+; broker end 1; ",
+    },
+    Case {
+        name: "the connection finds no memory for a broker's frame",
+        calls: &[
+            (Call::Broker(b"\0\0\0\x04res!\0\0\0\x04res+"), "no-memory"),
+            (Call::Broker(b""), "fine"),
+        ],
+        notes: "answer res!; answer res+; ",
+    },
+    Case {
+        name: "the broker's sizes: one too small",
+        calls: &[
+            (Call::Broker(b"\0\0\0\x03"), "fine"),
+            (Call::Broker(b"\0"), "fine"),
+            (Call::BrokerEnd, "fine"),
+        ],
+        notes: "broker bad size 3 at 0; broker end 5; ",
+    },
+    Case {
+        name: "the broker's sizes: the greatest",
+        calls: &[(Call::Broker(b"\x08\0\0\0"), "fine")],
+        notes: "",
+    },
+    Case {
+        name: "the broker's sizes: one too great, behind a frame",
+        calls: &[(Call::Broker(b"\0\0\0\x04res+\x08\0\0\x01"), "fine")],
+        notes: "answer res+; broker bad size 134217729 at 8; ",
+    },
+    Case {
+        name: "the two streams are apart",
+        calls: &[
+            (Call::Client(b"\0\0\0\x08req"), "fine"),
+            (Call::Broker(b"\0\0\0\x04r"), "fine"),
+            (Call::Client(b"uest+"), "fine"),
+            (Call::BrokerEnd, "fine"),
+            (Call::Client(b"\0\0\0\x08request+"), "fine"),
+        ],
+        notes: "take request+; broker end 5; take request+; ",
+    },
+    Case {
+        name: "verdicts",
+        calls: &[
+            (Call::Done(0, 4_294_967_295, b"yes"), "fine"),
+            (Call::Done(1, 0, b""), "not-waiting"),
+            (Call::Done(18_446_744_073_709_551_615, 0, b""), "no-memory"),
+        ],
+        notes: "complete 0 4294967295 with 3; complete 1 0 with 0; complete 18446744073709551615 0 with 0; ",
+    },
+    Case {
+        name: "a fault outside",
+        calls: &[(Call::Fault(Fault::Thread), "fine")],
+        notes: "fault; ",
+    },
+];
+
+fn told_text(told: Result<Told, NoMemory>) -> &'static str {
+    match told {
+        Ok(Told::Fine) => "fine",
+        Ok(Told::Full) => "full",
+        Ok(Told::Closed) => "closed",
+        Ok(Told::NotWaiting) => "not-waiting",
+        Err(NoMemory) => "no-memory",
+    }
+}
+
+fn called(alloc: Global, station: &mut Station<Noting>, call: &Call) -> Result<&'static str, Fail> {
+    let mut steps = Steps::<()>::new();
+    let told = match call {
+        Call::Client(piece) => station.client(piece, &mut steps),
+        Call::Broker(piece) => station.broker(piece, &mut steps),
+        Call::ClientEnd => station.client_end(&mut steps),
+        Call::BrokerEnd => station.broker_end(&mut steps),
+        Call::Retake => station.retake(&mut steps),
+        Call::Done(request, index, verdict) => {
+            let verdict = Blob::copy(alloc, verdict)?;
+            station.done(*request, *index, verdict, &mut steps)
+        }
+        Call::Fault(fault) => {
+            station.fault(*fault);
+            Ok(Told::Fine)
+        }
+        Call::Emit => {
+            return match station.emit() {
+                Emit::Later => Ok("later"),
+                _ => Ok("another answer"),
+            };
+        }
+    };
+    Ok(told_text(told))
+}
+
+#[test]
+fn calls_in_turn(rt: HostRuntime) -> Result<(), Fail> {
+    for case in CASES {
+        let mut station = Station::new(rt.alloc(), Noting::new(rt.alloc()));
+        for (at, (call, told)) in case.calls.iter().enumerate() {
+            let found = called(rt.alloc(), &mut station, call)?;
+            assert_eq!(rt; found, *told, "{}: call {at}", case.name);
+        }
+        let notes = station.send().ok_or("the notes")?;
+        let text = std::str::from_utf8(notes.as_slice()).ok().ok_or("text")?;
+        assert_eq!(rt; text, case.notes, "{}", case.name);
+        assert!(rt; station.pick().is_none(), "{}", case.name);
+    }
+    Ok(())
+}
+
+// So many frames of this length, which come in pieces of such a length.
+const SIZES: [(u32, u32, usize); 6] = [
+    (1, 8, 1),
+    (1, 3_145_728, 1_048_576),
+    (1, 65_540, 65_536),
+    (20_000, 9, 260_000),
+    (1_000, 8, 5),
+    (3, 1_048_577, 3_145_743),
+];
+
+// A stream of frames, each of which ends in `+`.
+fn stream(alloc: Global, frames: u32, length: u32) -> Result<Vec<u8>, Fail> {
+    let mut bytes = Vec::new(alloc);
+    for _ in 0..frames {
+        bytes.extend_from_slice(&length.to_be_bytes())?;
+        for _ in 1..length {
+            bytes.push(b'x')?;
+        }
+        bytes.push(b'+')?;
+    }
+    Ok(bytes)
+}
+
+// What a connection notes of one of them.
+fn note_of(alloc: Global, length: u32) -> Result<String, Fail> {
+    if length as usize > LONG {
+        return Ok(format!(in alloc; "take {length} bytes; ")?);
+    }
+    let mut note = String::from_str(alloc, "take ")?;
+    for _ in 1..length {
+        note.push('x')?;
+    }
+    note.push_str("+; ")?;
+    Ok(note)
+}
+
+#[test]
+fn many_frames_and_long_ones(rt: HostRuntime) -> Result<(), Fail> {
+    let mut steps = Steps::<()>::new();
+    for (frames, length, piece) in SIZES {
+        let mut station = Station::new(rt.alloc(), Noting::new(rt.alloc()));
+        let bytes = stream(rt.alloc(), frames, length)?;
+        for piece in bytes.as_slice().chunks(piece) {
+            assert_eq!(rt;
+                station.client(piece, &mut steps),
+                Ok(Told::Fine),
+                "{frames} of {length}"
+            );
+        }
+        let note = note_of(rt.alloc(), length)?;
+        let mut wanted = String::new(rt.alloc());
+        for _ in 0..frames {
+            wanted.push_str(note.as_str())?;
+        }
+        let notes = station.send().ok_or("the notes")?;
+        assert!(rt;
+            notes.as_slice() == wanted.as_bytes(),
+            "{frames} of {length}"
+        );
+    }
+    Ok(())
+}

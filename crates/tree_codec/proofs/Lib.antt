@@ -1,0 +1,4 @@
+pub mod Stacks
+pub mod Progress
+pub mod Steps
+pub mod Edits

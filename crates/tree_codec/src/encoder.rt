@@ -1,0 +1,53 @@
+ghost use Rattle.std.specs.Prelude.{◌≡◌, ◌<◌, ◌↔◌, ◌++◌, ℕ, length, IsErrOf, IfOk, OnOk};
+ghost use Rattle.tree_spelling.specs.Primitives.{spelled, IsInRange};
+ghost use Rattle.tree_spelling.specs.Spelling.{spelling, AreInRange};
+
+use crate::body::Body;
+use crate::encode_fault::EncodeFault;
+use bytes::Bytes;
+use std::alloc::Global;
+use tree_spelling::Primitive;
+use wire_types::{NoMemory, Writer};
+
+/// The bytes that spell the body, if they are `most` at most. That is found before any memory is
+/// taken.
+pub fn encode(alloc: Global, body: &Body, most: u64) -> Result<Bytes, EncodeFault>
+    ensures ok { IfOk result (λ bytes. bytes ≡ spelling body.now.items) }
+    ensures grown { (size : ℕ) → IsErrOf result (EncodeFault.GrownPast size)
+        ↔ ((size ≡ length (spelling body.now.items)) × (most < size)) }
+{
+    let size = body.size();
+    if size > most {
+        return Err(EncodeFault::GrownPast { size });
+    }
+    body.is_tree();
+    Ok(spell(alloc, body.items(), size)?)
+}
+
+fn spell(alloc: Global, items: &[Primitive], size: u64) -> Result<Bytes, NoMemory>
+    requires { AreInRange items.now }
+    ensures { IfOk result (λ bytes. bytes ≡ spelling items.now) }
+{
+    let mut out = Writer::with_capacity(alloc, size as usize)?;
+    for item in items {
+        write_item(&mut out, item)?;
+    }
+    out.finish()
+}
+
+fn write_item(out: &mut Writer, item: &Primitive) -> Result<(), NoMemory>
+    requires { IsInRange item.now }
+    ensures { OnOk result (out.new ≡ out.old ++ spelled item.now) }
+{
+    let put = match item {
+        Primitive::Int8(number) => out.put_i8(*number),
+        Primitive::Int16(number) => out.put_i16(*number),
+        Primitive::Int32(number) => out.put_i32(*number),
+        Primitive::Int64(number) => out.put_i64(*number),
+        Primitive::Boolean(byte) => out.put_i8(byte.cast_signed()),
+        Primitive::Text(text) => out.put_string(text.as_ref().map(|bytes| bytes.as_slice())),
+        Primitive::Binary(found) => out.put_bytes(found.as_ref().map(|bytes| bytes.as_slice())),
+        Primitive::Count(entries) => out.put_count(*entries),
+    };
+    put.map_err(|_| NoMemory)
+}

@@ -1,0 +1,11 @@
+pub mod Primitives
+pub mod Shape
+pub mod Value
+pub mod Spelling
+pub mod Body
+pub mod Items
+pub mod Paths
+pub mod Changes
+pub mod Building
+pub mod Laws
+pub mod Agenda

@@ -1,0 +1,430 @@
+"""Runs `kproxy replay` with ample memory on scripts of odd and great sizes, and compares all that it writes with what
+`replay_model.py` says of them. A body that answers want of memory past some size is proved, and is caught here.
+
+Use `scripts/check_ample`, which calls this. The limit of a whole script is tried by `bench/limits.sh`.
+"""
+
+import os
+import random
+import subprocess
+import sys
+from binascii import hexlify
+
+from replay_model import BROKER_SIZES, CLIENT_SIZES, HELD, IN_FLIGHT, LONGEST_LINE, LONGEST_VERDICT, replayed, sized
+from running import Cases, program, shown, status_text
+
+SECONDS = 60  # that a run may take
+KIB, MIB = 1 << 10, 1 << 20
+CHUNK = 64 * KIB
+
+# Heads without their correlation ids: API key and version.
+HEARTBEAT = bytes.fromhex("000c 0000")
+SYNC_GROUP = bytes.fromhex("000e 0000")
+LIST_GROUPS = bytes.fromhex("0010 0000")
+API_VERSIONS_3 = bytes.fromhex("0012 0003")
+# The sizes of the least requests of the first two, with a null client id and empty texts, and of their least answers.
+LEAST_HEARTBEAT, HEARTBEAT_ANSWER = 18, 6
+LEAST_SYNC_GROUP, LEAST_ANSWER = 28, 10
+
+PATTERN = bytes(range(251))
+LETTERS = bytes(range(ord("a"), ord("z") + 1))
+
+
+def signed(value, width=4):
+    return value.to_bytes(width, "big", signed=True)
+
+
+# Frames, as "The Messages" of Kafka's protocol guide spells them. Neighbours differ at each place of a body.
+
+
+def filler(length, seed, of=PATTERN):
+    start = seed % len(of)
+    return (of * ((start + length) // len(of) + 1))[start : start + length]
+
+
+def text(length, seed):
+    """A STRING."""
+    return signed(length, 2) + filler(length, seed, LETTERS)
+
+
+def blob(length, seed):
+    """BYTES."""
+    return signed(length) + filler(length, seed)
+
+
+def own_id(index):
+    return ((index * 40_503 + 77_777) % (1 << 32)).to_bytes(4, "big")
+
+
+def request(index, size):
+    """Request number `index`, with its size in front: SyncGroup, or where it is too short Heartbeat or ListGroups."""
+    null, empty = signed(-1, 2), signed(0, 2)
+    if size < LEAST_HEARTBEAT:
+        return sized(LIST_GROUPS + own_id(index) + text(size - 10, index))
+    if size < LEAST_SYNC_GROUP:
+        return sized(HEARTBEAT + own_id(index) + null + empty + signed(index) + text(size - LEAST_HEARTBEAT, index))
+    group = empty + signed(index) + empty
+    assignments = signed(1) + empty + blob(size - LEAST_SYNC_GROUP, index)
+    return sized(SYNC_GROUP + own_id(index) + null + group + assignments)
+
+
+def answer(index, size):
+    """The answer to message number `index`, with its size in front: Heartbeat's, or SyncGroup's where it is longer.
+    ListGroups is answered as SyncGroup is with no bytes."""
+    body = signed(27, 2) + (blob(size - LEAST_ANSWER, index + 100) if size >= LEAST_ANSWER else b"")
+    return sized(index.to_bytes(4, "big") + body)
+
+
+def unserved_request(index, head, size=20):
+    """Bytes whose head names an API and version that isn't served."""
+    return sized(head + own_id(index) + filler(size - 8, index))
+
+
+# Lines, without their byte 10.
+
+
+def pieces(side, data, most):
+    for at in range(0, len(data), most):
+        yield side.encode() + b" " + hexlify(data[at : at + most])
+
+
+def piece(side, data):
+    return next(pieces(side, data, len(data)))
+
+
+def exchange(index, size, answer_size, most):
+    """One request and its answer, in pieces of `most` bytes at most."""
+    yield from pieces("client", request(index, size), most)
+    yield b"send"
+    yield from pieces("broker", answer(index, answer_size), most)
+    yield b"emit"
+
+
+def served(first, count, answer_size=HEARTBEAT_ANSWER):
+    """Requests that were handed on before: each is sent, answered and emitted."""
+    for index in range(first, first + count):
+        yield b"send"
+        yield piece("broker", answer(index, answer_size))
+        yield b"emit"
+
+
+def ended():
+    yield b"client-end"
+    yield b"emit"
+
+
+# Scripts.
+
+
+def three_megabytes():
+    yield from exchange(0, 3_000_000, 3_000_000, MIB)
+    yield from ended()
+
+
+def frames_in_one_piece(count):
+    """They are served in rounds of as many as may be in flight."""
+    yield piece("client", b"".join(request(index, 24) for index in range(count)))
+    for first in range(0, count, IN_FLIGHT):
+        yield from [b"send"] * IN_FLIGHT
+        yield piece("broker", b"".join(answer(first + i, HEARTBEAT_ANSWER) for i in range(IN_FLIGHT)))
+        yield from [b"emit"] * IN_FLIGHT
+    yield from ended()
+
+
+def unknown_versions_in_one_piece(count):
+    yield piece("client", b"".join(unserved_request(index, API_VERSIONS_3) for index in range(count)))
+    for _ in range(count):
+        yield b"emit"
+    yield from ended()
+
+
+def frames_behind_a_cut(count):
+    first = unserved_request(0, signed(32_767, 2) + signed(-32_768, 2))
+    yield piece("client", first + b"".join(request(index, 20) for index in range(count)))
+    yield from ended()
+
+
+def answers_in_one_piece(count, request_size, size):
+    """The answers to sixteen messages, and behind them `count` frames that answer nothing."""
+    yield piece("client", b"".join(request(index, request_size) for index in range(IN_FLIGHT)))
+    yield from [b"send"] * IN_FLIGHT
+    yield piece("broker", b"".join(answer(index, size) for index in range(IN_FLIGHT + count)))
+    yield from [b"emit"] * (IN_FLIGHT + 1)
+
+
+def lines_of_one_kind(line, count):
+    """Sixteen requests are in flight, one waits for room, and one answer has come."""
+    yield piece("client", b"".join(request(index, 24) for index in range(IN_FLIGHT + 1)))
+    yield from [b"send"] * 3
+    yield piece("broker", answer(0, HEARTBEAT_ANSWER))
+    yield from [line] * count
+    yield from [b"send", b"emit", b"emit"]
+
+
+def one_line_again(line, count):
+    yield from [line] * count
+
+
+def held():
+    """Fifteen requests have the most bytes that are held, and one more waits for room."""
+    size = HELD // 15
+    for index in range(14):
+        yield piece("client", request(index, size))
+    yield piece("client", request(14, HELD - 14 * size))
+    yield piece("client", request(15, 20))
+    yield from served(0, 15, LEAST_ANSWER)
+    yield from served(15, 1)
+    yield from ended()
+
+
+def waiting_for_room(size):
+    """A request of this size comes while sixteen are in flight, and is taken after the first of them is passed."""
+    yield piece("client", b"".join(request(index, 20) for index in range(IN_FLIGHT)))
+    yield piece("client", request(IN_FLIGHT, size))
+    yield b"client -"
+    yield from served(0, IN_FLIGHT)
+    yield from served(IN_FLIGHT, 1, LEAST_ANSWER)
+    yield from ended()
+
+
+def least_sizes():
+    """From ten bytes on, which are a head alone, up to the first that can have any answer."""
+    for index, size in enumerate(range(10, LEAST_SYNC_GROUP)):
+        least = LEAST_ANSWER if size < LEAST_HEARTBEAT else HEARTBEAT_ANSWER
+        yield from exchange(index, size, least, size + 4)
+    yield from ended()
+
+
+def sizes_around(powers, most):
+    """Exchanges of the powers of two, and of one byte less and more."""
+    index = 0
+    for power in powers:
+        for size in (2**power - 1, 2**power, 2**power + 1):
+            yield from exchange(index, size, size + 1, most)
+            index += 1
+    yield from ended()
+
+
+def piece_sizes(sizes, size):
+    """An exchange of this size for each size of pieces."""
+    for index, most in enumerate(sizes):
+        yield from exchange(index, size, size, most)
+    yield from ended()
+
+
+def greatest_response():
+    yield piece("client", request(0, LEAST_SYNC_GROUP))
+    yield b"send"
+    yield from pieces("broker", answer(0, BROKER_SIZES[-1]), LONGEST_LINE // 4)
+    yield b"emit"
+
+
+def longest_line():
+    """A line of 268,435,455 bytes, the most that whole digits give, with the greatest frame and more."""
+    most = (LONGEST_LINE - len("client ")) // 2
+    tail = most - 4 - CLIENT_SIZES[-1]
+    second = request(1, tail + 1)
+    yield piece("client", request(0, CLIENT_SIZES[-1]) + second[:tail])
+    yield piece("client", second[tail:])
+    yield from served(0, 2, LEAST_ANSWER)
+    yield from ended()
+
+
+def longest_verdict(length):
+    yield b"done 18446744073709551615 4294967295 " + b"a5" * length
+    yield b"done 00000000000000000000 0000000000 -"
+
+
+def bad_size(side, size, before):
+    """A size outside the limits, behind a frame or its answer of `before` bytes."""
+    yield piece("client", request(0, before) + (signed(size) if side == "client" else b""))
+    yield b"send"
+    yield piece("broker", answer(0, before) + (signed(size) if side == "broker" else b""))
+    yield from [b"emit"] * 2
+
+
+def torn(side, rest):
+    """The stream ends with `rest` bytes of a frame of the greatest size."""
+    sizes = CLIENT_SIZES if side == "client" else BROKER_SIZES
+    yield piece(side, (signed(sizes[-1]) + filler(rest, 0))[:rest])
+    yield f"{side}-end".encode()
+    yield b"emit"
+
+
+def unserved(key, version):
+    yield piece("client", request(0, 20) + unserved_request(1, signed(key, 2) + signed(version, 2)))
+    yield from served(0, 1)
+    yield b"emit"
+
+
+def late_request(count, last):
+    """A frame that ends the connection, behind so many requests."""
+    yield piece("client", b"".join(unserved_request(index, API_VERSIONS_3) for index in range(count)) + last)
+    yield from [b"emit"] * (count + 1)
+
+
+def late_answer(count, found):
+    """An answer with a wrong correlation id, to a message behind so many others."""
+    yield piece("client", b"".join(request(index, 20) for index in range(count + 1)))
+    yield from served(0, count)
+    yield b"send"
+    yield piece("broker", answer(found, HEARTBEAT_ANSWER))
+    yield b"emit"
+
+
+def wrong_id(found):
+    yield piece("client", request(0, 20))
+    yield b"send"
+    yield piece("broker", sized(signed(found) + b"\0\0"))
+    yield b"emit"
+
+
+def unasked(found):
+    yield piece("broker", sized(signed(found)))
+    yield b"emit"
+
+
+def broker_ends(waiting):
+    yield piece("client", b"".join(request(index, 20) for index in range(IN_FLIGHT)))
+    yield from [b"send"] * waiting
+    yield b"broker-end"
+    yield b"emit"
+
+
+def client_id(length, there):
+    """A client id that says its length, and so many bytes of it."""
+    yield piece("client", sized(LIST_GROUPS + own_id(5) + signed(length, 2) + filler(there, 3, LETTERS)))
+    yield from [b"send", b"emit"]
+
+
+def drawn(seed, count):
+    """Exchanges of any size up to 2 MiB, all orders of magnitude alike, in a thousand pieces or so at most."""
+    draw = random.Random(seed)
+    for index in range(count):
+        size, answer_size, most = (int(2 ** draw.uniform(5, 21)) for _ in range(3))
+        yield from exchange(index, size, answer_size, max(most, size // 1_000, answer_size // 1_000))
+    yield from ended()
+
+
+# The cases: names and scripts.
+
+
+ONE_KIND = [
+    "send", "emit", "pick", "client-end", "broker-end", "client -", "broker -", "client 00", "broker ff",
+    "done 0 0 -", "done 18446744073709551615 4294967295 AbCd", "fault client-read", "fault client-write",
+    "fault broker-read", "fault broker-write", "fault authority 18446744073709551615",
+]  # fmt: skip
+GREATEST, LEAST = 2**31 - 1, -(2**31)
+
+
+def ordinary_cases():
+    yield "an exchange of 3 MB in pieces of 1 MiB", three_megabytes()
+    yield "200,000 frames in one piece", frames_in_one_piece(200_000)
+    yield "200,000 ApiVersions of version 3 in one piece", unknown_versions_in_one_piece(200_000)
+    yield "200,000 frames behind a cut in one piece", frames_behind_a_cut(200_000)
+    yield "16 answers and 200,000 frames more in one piece", answers_in_one_piece(200_000, 20, HEARTBEAT_ANSWER)
+    yield "16 answers of 1 MiB in one piece", answers_in_one_piece(0, 40, MIB)
+    for line in ONE_KIND:
+        yield f"10,000 lines `{line}` on a new connection", one_line_again(line.encode(), 10_000)
+        yield f"10,000 lines `{line}` with 16 in flight", lines_of_one_kind(line.encode(), 10_000)
+    yield "209,715,200 bytes held", held()
+    yield "a frame of 16 MiB that waits for room", waiting_for_room(16 * MIB)
+    yield "the least sizes", least_sizes()
+    yield "sizes around powers of 2, whole", sizes_around(range(5, 23), 32 * MIB)
+    yield "sizes around powers of 2, in 64 KiB", sizes_around(range(5, 22), 64 * KIB)
+    yield "a frame past 16 MiB", piece_sizes([32 * MIB], 16 * MIB + 1)
+    yield "one byte a piece", piece_sizes([1], 70_001)
+    yield "pieces of odd sizes", piece_sizes([251, 4_095, 32_767, 32_769, 65_535, 65_537, 1_000_003], 1_234_567)
+    yield "the greatest response", greatest_response()
+    yield "the longest line", longest_line()
+    yield "the longest verdict", longest_verdict(LONGEST_VERDICT)
+    yield "a verdict past its limit", longest_verdict(LONGEST_VERDICT + 1)
+    yield "sizes drawn at random", drawn(1, 60)
+
+
+def end_cases():
+    for size in (LEAST, -1, 0, CLIENT_SIZES[0] - 1, CLIENT_SIZES[-1] + 1, GREATEST):
+        yield f"a client's size of {size:,} behind 2,000,003 bytes", bad_size("client", size, 2_000_003)
+    for size in (LEAST, -1, 0, BROKER_SIZES[0] - 1, BROKER_SIZES[-1] + 1, GREATEST):
+        yield f"a broker's size of {size:,} behind 1,000,003 bytes", bad_size("broker", size, 1_000_003)
+    for rest in (1, 2, 3, 4, 5, 65_539, MIB + 4, 20_000_003):
+        yield f"the client's stream torn at {rest:,} bytes", torn("client", rest)
+        yield f"the broker's stream torn at {rest:,} bytes", torn("broker", rest)
+    for key, version in ((-32_768, -32_768), (32_767, 32_767), (12, 4), (12, -1), (-1, 0)):
+        yield f"key {key} in version {version}", unserved(key, version)
+    for found in (LEAST, -1, 1, GREATEST):
+        yield f"an answer with id {found} for 0", wrong_id(found)
+        yield f"an answer with id {found} for nothing", unasked(found)
+    for waiting in (0, 1, IN_FLIGHT):
+        yield f"the broker's end with {waiting} waiting", broker_ends(waiting)
+    for length, there in ((-2, 0), (-1, 0), (0, 0), (1, 0), (32_767, 32_766), (32_767, 32_767), (-32_768, 32_767)):
+        yield f"a client id of {length:,} in {there:,} bytes", client_id(length, there)
+    late = 66_000
+    yield "an unserved request number 66,000", late_request(late, unserved_request(late, signed(99, 2) + signed(3, 2)))
+    yield "a bad head of request number 66,000", late_request(late, sized(HEARTBEAT + own_id(late)))
+    yield "a bad size behind 66,000 frames", late_request(late, signed(7))
+    yield "a mismatch at message number 66,000", late_answer(late, late - 1)
+
+
+# What is written, held beside the model.
+
+
+def copied(lines, file):
+    """The lines, each of which is written to the file as it goes by."""
+    for line in lines:
+        file.write(line)
+        file.write(b"\n")
+        yield line
+
+
+def first_difference(one, other):
+    """The place where two texts differ first."""
+    at = 0
+    while at < len(one) and one[at : at + CHUNK] == other[at : at + CHUNK]:
+        at += CHUNK
+    return at + len(os.path.commonprefix([one[at : at + CHUNK], other[at : at + CHUNK]]))
+
+
+def difference(wanted, file):
+    """Where a file differs first from these lines."""
+    for number, line in enumerate(wanted, 1):
+        got = file.read(len(line))
+        if got != line:
+            at = first_difference(line, got)
+            return f"in line {number} of the output, at byte {at}, wanted {shown(line[at:])}, got {shown(got[at:])}"
+        if (end := file.read(1)) != b"\n":
+            return f"wanted the end of line {number} of the output, got {shown(end)}"
+    more = file.read(CHUNK)
+    return f"wanted no more output, got {shown(more)}" if more else None
+
+
+def file_in_memory(name):
+    return os.fdopen(os.memfd_create(name), "w+b")
+
+
+def complaint(path, lines):
+    with file_in_memory("script") as script, file_in_memory("written") as written:
+        *wanted, status = replayed(copied(lines, script))
+        script.seek(0)
+        try:
+            found = subprocess.run([path, "replay"], stdin=script, stdout=written, timeout=SECONDS).returncode
+        except subprocess.TimeoutExpired:
+            return f"it had not ended after {SECONDS} seconds"
+        written.seek(0)
+        differs = difference(wanted, written)
+    if found != status:
+        return f"wanted status {status}, got {status_text(found)}" + (f"; {differs}" if differs else "")
+    return differs
+
+
+def main():
+    path = program(is_wrapped=False)
+    cases = Cases("check_ample")
+    for make in (ordinary_cases, end_cases):
+        for name, lines in make():
+            cases.note(name, complaint(path, lines))
+    return cases.status()
+
+
+if __name__ == "__main__":
+    sys.exit(main())

@@ -1,0 +1,416 @@
+"""Runs the built program as a shell or another program does: with faulty words, with inputs and outputs that fail, and
+over pipes that stay open. What is wanted is said in docs/SCRIPTS.md, and the answers are those of `replay_model.py`.
+
+Use `scripts/check_program`, which calls this.
+"""
+
+import os
+import resource
+import select
+import signal
+import socket
+import struct
+import subprocess
+import sys
+import tempfile
+import time
+from contextlib import contextmanager
+
+from replay_model import replayed
+from running import Cases, program, shown, status_text
+
+SECONDS = 10  # that a case may take
+USAGE = (
+    b"usage: kproxy replay [CONFIG CLUSTER] | check CONFIG | plan CONFIG | serve CONFIG | broker HOST PORT"
+    b" | load SEED N\n"
+)
+EXCHANGE = [
+    b"client 00000014000c000000000007ffff0001670000000100016d",
+    b"send",
+    b"broker 00000006000000000000",
+    b"emit",
+    b"pick",
+    b"done 0 0 -",
+    b"client-end",
+    b"emit",
+]
+DONE, REFUSED, USAGE_STATUS, INPUT_FAULT, OUTPUT_FAULT = range(5)
+
+
+class Complaint(Exception):
+    """What was wanted, and what came."""
+
+
+def text_of(lines):
+    return b"".join(line + b"\n" for line in lines)
+
+
+def answers_to(lines):
+    """The text that is written for these lines."""
+    *answers, _ = replayed(lines)
+    return text_of(answers)
+
+
+def compare(what, wanted, got):
+    if wanted != got:
+        show = shown if isinstance(wanted, bytes) else str
+        raise Complaint(f"wanted {what} {show(wanted)}, got {show(got)}")
+
+
+# One run. The words are bytes, since a word may be anything.
+
+
+def started(path, words, **streams):
+    return subprocess.Popen([os.fsencode(path), *words], **streams)
+
+
+def ended(child):
+    """The status of a run, which is to end in time."""
+    try:
+        return child.wait(SECONDS)
+    except subprocess.TimeoutExpired:
+        raise Complaint(f"it had not ended after {SECONDS} seconds") from None
+    finally:
+        child.kill()
+        child.wait()
+
+
+def outcome(path, words, stdin, before=None):
+    """What a run writes, and its status. `before` is done in the new process, before the program begins there."""
+    with tempfile.TemporaryFile() as out:
+        status = ended(started(path, words, stdin=stdin, stdout=out, preexec_fn=before))
+        out.seek(0)
+        return out.read(), status
+
+
+def expect(path, words, stdin, output, status, before=None):
+    written, found = outcome(path, words, stdin, before)
+    if found != status:
+        raise Complaint(f"wanted status {status}, got {status_text(found)} and {shown(written)}")
+    compare("the output", output, written)
+
+
+@contextmanager
+def file_of(data):
+    with tempfile.TemporaryFile() as file:
+        file.write(data)
+        file.seek(0)
+        yield file
+
+
+# The words.
+
+
+FAULTY_WORDS = {
+    "no words": [],
+    "one word too many": [b"replay", b"x"],
+    "the word twice": [b"replay", b"replay"],
+    "an empty word": [b""],
+    "an empty word behind": [b"replay", b""],
+    "an empty word before": [b"", b"replay"],
+    "another word": [b"reply"],
+    "the front of the word": [b"repla"],
+    "a longer word": [b"replayed"],
+    "a capital": [b"Replay"],
+    "a space behind": [b"replay "],
+    "a word that isn't UTF-8": [b"\xff"],
+    "a word behind that isn't UTF-8": [b"replay", b"\xff"],
+    "a byte behind that isn't UTF-8": [b"replay\x80"],
+    "--help": [b"--help"],
+    "--version": [b"--version"],
+    "-h": [b"-h"],
+    "-": [b"-"],
+    "-- before": [b"--", b"replay"],
+    "a word of 100,000 bytes": [b"r" * 100_000],
+    "1,000 words": [b"replay"] * 1_000,
+}
+
+
+def refuses_words(path, words):
+    """The usage line is written, and nothing is read."""
+    with file_of(text_of(EXCHANGE)) as script:
+        expect(path, words, script, USAGE, USAGE_STATUS)
+        compare("bytes read", 0, os.lseek(script.fileno(), 0, os.SEEK_CUR))
+
+
+def refuses_words_over_a_pipe(path):
+    """The pipe stays open, so that a read of it would wait."""
+    with pipe() as (reader, _):
+        expect(path, [b"other"], reader, USAGE, USAGE_STATUS)
+
+
+def usage_has_no_room(path):
+    with open("/dev/full", "wb") as full:
+        child = started(path, [b"--help"], stdin=subprocess.DEVNULL, stdout=full)
+        compare("status", OUTPUT_FAULT, ended(child))
+
+
+# Inputs.
+
+
+def plays_a_file(path):
+    with file_of(text_of(EXCHANGE)) as script:
+        expect(path, [b"replay"], script, answers_to(EXCHANGE), DONE)
+
+
+def plays_nothing(path):
+    expect(path, [b"replay"], subprocess.DEVNULL, b"", DONE)
+
+
+def reads_a_directory(path):
+    folder = os.open("/", os.O_RDONLY)
+    try:
+        expect(path, [b"replay"], folder, b"", INPUT_FAULT)
+    finally:
+        os.close(folder)
+
+
+def reads_closed_input(path):
+    expect(path, [b"replay"], subprocess.DEVNULL, b"", INPUT_FAULT, before=lambda: os.close(0))
+
+
+def reads_what_is_open_for_writing(path):
+    with open(os.devnull, "wb") as file:
+        expect(path, [b"replay"], file, b"", INPUT_FAULT)
+
+
+def input_fails_behind_lines(path):
+    """A socket whose peer resets it gives its bytes, and then a failed read."""
+    with socket.create_server(("127.0.0.1", 0)) as server:
+        peer = socket.create_connection(server.getsockname())
+        accepted, _ = server.accept()
+    with accepted, Conversation(path, accepted.fileno()) as talk:
+        for line in EXCHANGE[:3]:
+            peer.sendall(line + b"\n")
+        talk.expect(answers_to(EXCHANGE[:3]))
+        peer.setsockopt(socket.SOL_SOCKET, socket.SO_LINGER, struct.pack("ii", 1, 0))
+        peer.close()
+        talk.expect_end(INPUT_FAULT)
+
+
+# Outputs.
+
+
+def output_to(path, file, status):
+    with file_of(text_of(EXCHANGE)) as script:
+        compare("status", status, ended(started(path, [b"replay"], stdin=script, stdout=file)))
+
+
+def writes_to_a_full_device(path):
+    with open("/dev/full", "wb") as full:
+        output_to(path, full, OUTPUT_FAULT)
+
+
+def writes_nothing_to_a_full_device(path):
+    with open("/dev/full", "wb") as full:
+        child = started(path, [b"replay"], stdin=subprocess.DEVNULL, stdout=full)
+        compare("status", DONE, ended(child))
+
+
+def writes_to_what_is_open_for_reading(path):
+    with open(os.devnull, "rb") as file:
+        output_to(path, file, OUTPUT_FAULT)
+
+
+def writes_to_closed_output(path):
+    with file_of(text_of(EXCHANGE)) as script:
+        expect(path, [b"replay"], script, b"", OUTPUT_FAULT, before=lambda: os.close(1))
+
+
+def writes_up_to_a_limit(path, lines, limit):
+    """The file may have so many bytes. A write past them fails, where the signal that it brings is ignored."""
+
+    def limited():
+        signal.signal(signal.SIGXFSZ, signal.SIG_IGN)
+        resource.setrlimit(resource.RLIMIT_FSIZE, (limit, limit))
+
+    with file_of(text_of(lines)) as script:
+        expect(path, [b"replay"], script, answers_to(lines)[:limit], OUTPUT_FAULT, before=limited)
+
+
+def reader_goes_away(path):
+    """The input stays open: the program ends by the write that fails."""
+    with pipe() as (reader, writer), Conversation(path, reader) as talk:
+        os.write(writer, b"emit\n")
+        talk.expect(b"later\n")
+        talk.stop_reading()
+        os.write(writer, b"emit\n")
+        talk.expect_end(OUTPUT_FAULT)
+
+
+def slow_reader(path):
+    """The output is many times what a pipe holds, and nothing is read of it for a while."""
+    lines = EXCHANGE[:1] + [b"emit"] * 200_000 + EXCHANGE[1:]
+    with file_of(text_of(lines)) as script, Conversation(path, script.fileno()) as talk:
+        time.sleep(0.5)
+        for piece in pieces_of(answers_to(lines), 10_007):
+            talk.expect(piece)
+        talk.expect_end(DONE)
+
+
+def pieces_of(data, size):
+    return (data[at : at + size] for at in range(0, len(data), size))
+
+
+# Pipes that stay open.
+
+
+@contextmanager
+def pipe():
+    reader, writer = os.pipe()
+    with os.fdopen(reader, "rb") as one, os.fdopen(writer, "wb") as other:
+        yield one.fileno(), other.fileno()
+
+
+class Conversation:
+    """`replay` with a pipe behind its output, and the time within which all of it is to happen."""
+
+    def __init__(self, path, stdin):
+        self.end = time.monotonic() + SECONDS
+        self.child = started(path, [b"replay"], stdin=stdin, stdout=subprocess.PIPE, bufsize=0)
+
+    def __enter__(self):
+        return self
+
+    def __exit__(self, *_):
+        self.child.kill()
+        self.child.wait()
+        self.child.stdout.close()
+
+    def read(self, most):
+        """What is there next, and nothing at the end of the output."""
+        left = max(self.end - time.monotonic(), 0)
+        if not select.select([self.child.stdout], [], [], left)[0]:
+            return None
+        return self.child.stdout.read(most)
+
+    def expect(self, wanted):
+        """These bytes come next."""
+        got = b""
+        while len(got) < len(wanted):
+            piece = self.read(len(wanted) - len(got))
+            if piece is None:
+                raise Complaint(f"wanted {shown(wanted)}, got no more than {shown(got)} in {SECONDS} seconds")
+            if not piece:
+                break
+            got += piece
+        compare("the output", wanted, got)
+
+    def expect_silence(self, seconds=0.2):
+        if select.select([self.child.stdout], [], [], seconds)[0]:
+            raise Complaint(f"wanted nothing yet, got {shown(self.child.stdout.read(100))}")
+
+    def stop_reading(self):
+        self.child.stdout.close()
+
+    def expect_end(self, status):
+        """Nothing more comes, and the program ends."""
+        if not self.child.stdout.closed:
+            more = self.read(100)
+            if more is None:
+                raise Complaint(f"it had not ended after {SECONDS} seconds")
+            if more:
+                raise Complaint(f"wanted the output's end, got {shown(more)}")
+        found = ended(self.child)
+        if found != status:
+            raise Complaint(f"wanted status {status}, got {status_text(found)}")
+
+
+@contextmanager
+def conversation(path):
+    with pipe() as (reader, writer), Conversation(path, reader) as talk:
+        yield talk, writer
+
+
+def answers_before_the_next_line(path):
+    """Each line is answered before the next one is written."""
+    with conversation(path) as (talk, writer):
+        for line, answer in zip(EXCHANGE, answers_to(EXCHANGE).splitlines(keepends=True)):
+            os.write(writer, line + b"\n")
+            talk.expect(answer)
+
+
+def answers_two_lines_and_a_half(path):
+    """A line whose end hasn't come isn't answered yet."""
+    with conversation(path) as (talk, writer):
+        os.write(writer, b"send\nemit\nsen")
+        talk.expect(b"none\nlater\n")
+        talk.expect_silence()
+        os.write(writer, b"d\n")
+        talk.expect(b"none\n")
+
+
+def answers_bytes_that_come_one_by_one(path):
+    with conversation(path) as (talk, writer):
+        for byte in pieces_of(text_of(EXCHANGE), 1):
+            os.write(writer, byte)
+        talk.expect(answers_to(EXCHANGE))
+
+
+def answers_the_last_line_at_the_end(path):
+    """A last line without byte 10 is answered once the pipe is closed."""
+    reader, writer = os.pipe()
+    with os.fdopen(reader, "rb") as stdin, Conversation(path, stdin) as talk:
+        os.write(writer, b"send\nemit")
+        talk.expect(b"none\n")
+        talk.expect_silence()
+        os.close(writer)
+        talk.expect(b"later\n")
+        talk.expect_end(DONE)
+
+
+def ends_at_a_bad_line(path, lines, bad):
+    with conversation(path) as (talk, writer):
+        os.write(writer, text_of(lines) + bad)
+        talk.expect(answers_to(lines) + b"bad line %d\n" % (len(lines) + 1))
+        talk.expect_end(REFUSED)
+
+
+# The cases.
+
+
+def cases(path):
+    for name, words in FAULTY_WORDS.items():
+        yield f"words: {name}", refuses_words, (path, words)
+    yield "words: another word, over a pipe that stays open", refuses_words_over_a_pipe, (path,)
+    yield "words: the usage line to a full device", usage_has_no_room, (path,)
+    yield "input: a file", plays_a_file, (path,)
+    yield "input: nothing", plays_nothing, (path,)
+    yield "input: a directory", reads_a_directory, (path,)
+    yield "input: closed", reads_closed_input, (path,)
+    yield "input: open for writing", reads_what_is_open_for_writing, (path,)
+    yield "input: a socket that is reset behind three lines", input_fails_behind_lines, (path,)
+    yield "output: a full device", writes_to_a_full_device, (path,)
+    yield "output: a full device, and nothing to write", writes_nothing_to_a_full_device, (path,)
+    yield "output: open for reading", writes_to_what_is_open_for_reading, (path,)
+    yield "output: closed", writes_to_closed_output, (path,)
+    for limit in (0, 1, 10):
+        yield f"output: a file of {limit} bytes at most", writes_up_to_a_limit, (path, EXCHANGE, limit)
+    many = EXCHANGE[:1] + [b"emit"] * 50_000
+    for limit in (65_535, 65_536, 100_001):
+        yield f"output: a file of {limit:,} bytes at most", writes_up_to_a_limit, (path, many, limit)
+    yield "output: a reader that goes away", reader_goes_away, (path,)
+    yield "output: a slow reader", slow_reader, (path,)
+    yield "pipe: each line is answered before the next", answers_before_the_next_line, (path,)
+    yield "pipe: two lines and a half", answers_two_lines_and_a_half, (path,)
+    yield "pipe: byte by byte", answers_bytes_that_come_one_by_one, (path,)
+    yield "pipe: the last line without its end", answers_the_last_line_at_the_end, (path,)
+    yield "pipe: a bad line", ends_at_a_bad_line, (path, [], b"sned\n")
+    yield "pipe: a bad line behind three", ends_at_a_bad_line, (path, EXCHANGE[:3], b"\n")
+    yield "pipe: a bad line before others", ends_at_a_bad_line, (path, EXCHANGE[:1], b"emit \nsend\nemit\n")
+
+
+def main():
+    path = program(is_wrapped=True)
+    table = Cases("check_program")
+    for name, case, arguments in cases(path):
+        try:
+            case(*arguments)
+            table.note(name, None)
+        except (Complaint, OSError) as complaint:
+            table.note(name, str(complaint))
+    return table.status()
+
+
+if __name__ == "__main__":
+    sys.exit(main())
