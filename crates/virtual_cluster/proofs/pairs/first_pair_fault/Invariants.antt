@@ -1,0 +1,7 @@
+use Rattle.std.proofs.Common.{◌≡◌, drop}
+use Rattle.virtual_cluster.specs.Pairs.{first_pair_fault}
+use Rattle.virtual_cluster.proofs.pairs.first_pair_fault.Given as goal
+
+-- the pairs so far have no fault
+abbrev pub invariant-loop-a : goal.invariant-loop-a
+invariant-loop-a l = first_pair_fault l.a (drop l.a l.plans) ≡ first_pair_fault 0 l.plans
