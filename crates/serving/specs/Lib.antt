@@ -5,3 +5,4 @@ pub mod Slots
 pub mod Flights
 pub mod Listing
 pub mod Stands
+pub mod Trials

@@ -30,3 +30,6 @@ pub use given::Given;
 pub use message::Message;
 pub use progress::{Begun, Progress};
 pub use service::Service;
+
+#[cfg(test)]
+mod tests;
