@@ -118,7 +118,8 @@ const AT_THE_LAST_NUMBER: [(Call, Told, u64, i32); 4] = [
 
 // The frame of the send with this owner: one byte that says whose it is.
 fn frame_of(alloc: Global, owner: usize) -> Option<Bytes> {
-    Bytes::copy_from_slice(alloc, &[owner as u8]).ok()
+    let byte = u8::try_from(owner).ok()?;
+    Bytes::copy_from_slice(alloc, &[byte]).ok()
 }
 
 fn called(alloc: Global, sends: &mut Sends, call: Call) -> Option<Told> {

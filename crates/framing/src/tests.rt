@@ -172,7 +172,8 @@ const AMPLE: [(usize, usize); 7] = [
 
 // Feeds a frame of these bytes in pieces of this size, its own size in front.
 fn feed_frame(framer: &mut Framer, bytes: &[u8], piece: usize) -> Result<(), NoMemory> {
-    framer.feed(&(bytes.len() as u32).to_be_bytes())?;
+    let size = (bytes.len() as u64).to_be_bytes();
+    framer.feed(size.split_at(4).1)?;
     for part in bytes.chunks(piece.max(1)) {
         framer.feed(part)?;
     }
@@ -188,7 +189,11 @@ fn gives_frames_of_any_size(rt: HostRuntime) -> Result<(), Fail> {
         feed_frame(&mut framer, bytes.as_slice(), piece)
             .ok()
             .ok_or("memory")?;
-        assert_eq!(rt; framer.rest(), size as u64 + 4, "size {size}");
+        assert_eq!(rt;
+            Some(framer.rest()),
+            (size as u64).checked_add(4),
+            "size {size}"
+        );
         match framer.next().ok().ok_or("memory")? {
             Next::Frame(frame) => assert!(rt; frame.as_slice() == bytes.as_slice(), "size {size}"),
             other => assert!(rt; false, "size {size}: {other:?}"),
