@@ -86,6 +86,7 @@ module _ {R : Type 0} (M : Meaning) (runs : R → List ℕ → List Outside → 
     held_is = h.held_is;
     rest = h.rest;
     whole = λ none. absurd (let never : true ≡ false = same (h.whole none).1 in cc);
+    free = λ none. absurd (let never : true ≡ false = same (h.whole none).1 in cc);
   }
   cuts_by false true k why same at =
       let cut : Stands M runs (record f { causes = with_cut k why f.causes }) (cut_at k why s) = stands_cut M runs f s h k k why (λ none. (refl, at refl (h.whole none).1)) in
@@ -96,6 +97,7 @@ module _ {R : Type 0} (M : Meaning) (runs : R → List ℕ → List Outside → 
         held_is = h.held_is;
         rest = cut.rest;
         whole = λ none. absurd (let never : false ≡ true = same (h.whole none).1 in cc);
+        free = λ none. absurd (let never : false ≡ true = same (h.whole none).1 in cc);
       }
 
   cuts_here : (why : End) → Stands M runs (record f { causes = with_cut f.requests why f.causes }) (cut_at (length s.requests) why s)

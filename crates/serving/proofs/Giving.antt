@@ -113,4 +113,5 @@ module _ {R : Type 0} (M : Meaning) (runs : R → List ℕ → List Outside → 
         held_is = outside.held ∙ (h.held_is ∙ sym (settled.counts.held_is ∙ counts.held_is));
         rest = settled.settles.rest;
         whole = λ none. (outside.requests ∙ (number ∙ sym long), settled.carries);
+        free = λ none. settled.free;
       }

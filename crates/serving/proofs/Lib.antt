@@ -12,6 +12,6 @@ pub mod Follows
 pub mod Takes
 pub mod Responses
 pub mod Passing
-pub mod Free
+pub mod Freed
 pub mod Resting
 pub mod Picking

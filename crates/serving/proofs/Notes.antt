@@ -20,6 +20,7 @@ use Rattle.correlation.specs.WindowOf.{window_of}
 use Rattle.serving.specs.declared.flight.Flight.{Flight}
 use Rattle.serving.specs.Listing.{SameFor, IsCutBehind, SameOutside, Carries}
 use Rattle.serving.specs.Stands.{Stands}
+use Rattle.serving.proofs.Freed.{uncut}
 use Rattle.serving.proofs.Same.{keeps_same, passed_same, untouched_same, low_before_cut, behind_cut}
 
 -- where nothing was done before a cut, nothing is done before a lesser one
@@ -88,6 +89,7 @@ module _ {R : Type 0} (M : Meaning) (runs : R → List ℕ → List Outside → 
         whole = λ none.
             let w : (f.requests ≡ length s.requests) × Carries M runs f s = h.whole (back none) in
             (w.0, carries_causes c d (same w.1 w.0) lower (behind w.1) w.1);
+        free = λ none uncut_now. h.free (back none) (uncut s.causes.cut d.cut lower uncut_now);
       }
 
   module _ (h : Stands M runs f s) where
@@ -104,6 +106,7 @@ module _ {R : Type 0} (M : Meaning) (runs : R → List ℕ → List Outside → 
       whole = λ none.
           let w : (f.requests ≡ length s.requests) × Carries M runs f s = h.whole none in
           (w.0, carries_causes (with_death why f.causes) (with_death why' s.causes) (ap (λ c. with_death why c) w.1.causes_is ∙ ap (λ y. with_death y s.causes) (same w.1.causes_is w.1)) (λ j x. x) w.1.cut_behind w.1);
+      free = h.free;
     }
 
     pub stands_cut : (k k' : ℕ) (why : End) → (s.causes.halt ≡ None → (k ≡ k') × (s.passed ≤ k')) → Stands M runs (record f { causes = with_cut k why f.causes }) (record s { causes = with_cut k' why s.causes })
@@ -117,6 +120,7 @@ module _ {R : Type 0} (M : Meaning) (runs : R → List ℕ → List Outside → 
           let w : (f.requests ≡ length s.requests) × Carries M runs f s = h.whole none in
           let e : (k ≡ k') × (s.passed ≤ k') = same none in
           (w.0, carries_causes (with_cut k why f.causes) (with_cut k' why s.causes) (ap (λ c. with_cut k why c) w.1.causes_is ∙ ap (λ n. with_cut n why s.causes) e.0) (low_before_cut k' why s.causes) (behind_cut k' why s.causes s.passed e.1 w.1.cut_behind) w.1);
+      free = λ none uncut_now. h.free none (uncut s.causes.cut (with_cut k' why s.causes).cut (low_before_cut k' why s.causes) uncut_now);
     }
 
     pub stands_told : (why : End) → Stands M runs (record f { causes = with_told why f.causes }) (record s { causes = with_told why s.causes })
@@ -129,6 +133,7 @@ module _ {R : Type 0} (M : Meaning) (runs : R → List ℕ → List Outside → 
       whole = λ none.
           let w : (f.requests ≡ length s.requests) × Carries M runs f s = h.whole none in
           (w.0, carries_causes (with_told why f.causes) (with_told why s.causes) (ap (λ c. with_told why c) w.1.causes_is) (λ j x. x) w.1.cut_behind w.1);
+      free = h.free;
     }
 
 -- The same is known of each request, and the slots are as they were.

@@ -1,5 +1,5 @@
 -- The oldest requests are passed, and the next send is taken.
-use Rattle.std.proofs.Common.{◌≡◌, ◌≢◌, ◌∙◌, ap, refl, sym, subst, ℕ, zero, suc, ◌+◌, ◌-◌, ◌≤◌, ◌<◌, nat_lt, ◌==◌, Bool, true, false, ◌&&◌, ◌||◌, is_some, if◌then◌else◌, List, [], ◌∷◌, length, drop, Option, Some, None, slice_get, arith, add-one, ◌⊎◌, inl, inr}
+use Rattle.std.proofs.Common.{◌≡◌, ◌≢◌, ◌∙◌, ap, refl, sym, subst, ℕ, zero, suc, ◌+◌, ◌-◌, ◌≤◌, ◌<◌, nat_lt, ◌==◌, Bool, true, false, ◌&&◌, ◌||◌, is_some, if◌then◌else◌, List, [], ◌∷◌, length, take, drop, Option, Some, None, slice_get, arith, add-one, ◌⊎◌, inl, inr}
 use Rattle.std.specs.Prelude.{sum_by}
 use Rattle.std.proofs.lemmas.List.Sums.{sum_by-cons}
 use Rattle.std.proofs.lemmas.Bool.{ltb-true, ltb-false, lt-ltb, eqb-false}
@@ -14,6 +14,7 @@ use Rattle.conn_rules.specs.Meaning.{Meaning, Status, Waits, Done, Fails}
 use Rattle.conn_rules.specs.State.{Outside, Request, ListedSend, State, held, in_flight, upstream_frame}
 use Rattle.conn_rules.specs.Steps.{response_of, response_in, silent_run, silent_passed, over_with, over_or, respond_or, emit_next, told_again, emit_step, sent_next, send_step, answer_to, StepOrNoMemory}
 use Rattle.conn_rules.specs.Settling.{next_act}
+use Rattle.conn_rules.specs.Sweep.{free_from}
 use Rattle.conn_rules.proofs.Lists.{found_first}
 use Rattle.correlation.specs.Windows.{first_frame, with_taken}
 use Rattle.correlation.specs.WindowOf.{window_of}
@@ -172,6 +173,7 @@ module _ {R : Type 0} (M : Meaning) (runs : R → List ℕ → List Outside → 
         held_is = pass.held ∙ held_rest;
         rest = h.rest;
         whole = λ none. (pass.requests ∙ number, passed_carries);
+        free = λ none uncut. pass.free ∙ h.free none uncut;
       }
 
       run_by : (b : Bool) (n : ℕ) → b ≡ true → (if b then suc n else 0) ≡ suc n
@@ -324,6 +326,7 @@ module _ {R : Type 0} (M : Meaning) (runs : R → List ℕ → List Outside → 
                   held_is = o.held ∙ p.held_is;
                   rest = p.rest;
                   whole = λ x. (o.requests ∙ w.0, carries_same M runs new last u u w.1 (λ j. same_refl j u) refl refl first (o.causes ∙ w.1.causes_is) pass.0.1 (subst (λ y. IsWindow u (window_of y)) (sym o.sends) w.1.window) w.1.cut_behind);
+                  free = λ x uncut. o.free ∙ p.free x uncut;
                 }
 
             death_is : last.causes.death ≡ u.causes.death
@@ -349,8 +352,8 @@ module _ {R : Type 0} (M : Meaning) (runs : R → List ℕ → List Outside → 
           let l : is_some s.causes.halt ≡ false = ap (λ o. is_some o) (sym h.halt_is ∙ none) in
           rw (d, l) refl
 
-      took : (t : State) → ((j : ℕ) → SameFor j s t) → t.requests ≡ s.requests → t.passed ≡ s.passed → t.causes ≡ s.causes → next_act M t ≡ None → IsWindow t (window_of g.sends) → Stands M runs g t
-      took t like requests passed causes rest window =
+      took : (t : State) → ((j : ℕ) → SameFor j s t) → t.requests ≡ s.requests → t.sends ≡ s.sends → t.passed ≡ s.passed → t.causes ≡ s.causes → next_act M t ≡ None → IsWindow t (window_of g.sends) → Stands M runs g t
+      took t like requests sends passed causes rest window =
           let count : length t.requests ≡ length s.requests = ap (λ rs. length rs) requests in
           let carries : Carries M runs g t = carries_same M runs f g s t v.1 like passed count (ap (λ x. first_of x) is) (ap (λ x. x.causes) is ∙ (v.1.causes_is ∙ sym causes)) (ap (λ x. x.slots.items) is) window (subst (λ x. IsCutBehind x.cut s.passed) (sym causes) v.1.cut_behind) in
           record {
@@ -360,17 +363,18 @@ module _ {R : Type 0} (M : Meaning) (runs : R → List ℕ → List Outside → 
             held_is = ap (λ x. x.held) is ∙ (h.held_is ∙ (ap (λ n. sum_by (λ x. length x.frame) (drop n s.requests)) (sym passed) ∙ ap (λ rs. sum_by (λ x. length x.frame) (drop t.passed rs)) (sym requests)));
             rest = rest;
             whole = λ x. (ap (λ y. y.requests) is ∙ (v.0 ∙ sym count), carries);
+            free = λ x uncut. ap (λ y. y.free) is ∙ (h.free (ap (λ c. c.halt) (sym causes) ∙ x) (ap (λ c. c.cut) (sym causes) ∙ uncut) ∙ (ap (λ rs. free_from M s.sends 0 true (take (length rs) rs)) (sym requests) ∙ ap (λ xs. free_from M xs 0 true (take (length t.requests) t.requests)) (sym sends)));
           }
 
       send_by : (found : Option ListedSend) → slice_get s.sends s.taken ≡ found → (result : Option (List ℕ)) → result ≡ first_frame (window_of f.sends).unsent → (t : State) × StepOrNoMemory M s event.Send (reply.Send result) t × Stands M runs g t
       send_by None at result first =
           let no = laws.no_first s (window_of f.sends) v.1.window at in
-          let stands : Stands M runs g s = took s (λ j. same_refl j s) refl refl refl h.rest (subst (λ x. IsWindow s x) (sym (taken ∙ no.1)) v.1.window) in
+          let stands : Stands M runs g s = took s (λ j. same_refl j s) refl refl refl refl h.rest (subst (λ x. IsWindow s x) (sym (taken ∙ no.1)) v.1.window) in
           (s, steps M s s event.Send (reply.Send result) (sends_on ∙ (ap (λ o. sent_next s o) at ∙ ap (λ o. (reply.Send o, s)) (sym (first ∙ no.0)))) h.rest, stands)
       send_by (Some d) at result first =
           let yes = laws.first s (window_of f.sends) d v.1.window at in
           let like : (j : ℕ) → SameFor j s (one_taken s) = λ j. record { request = refl; main = refl; listed = λ i. refl; picked = λ i. refl; pending = λ x. refl; served = λ x. x } in
-          let stands : Stands M runs g (one_taken s) = took (one_taken s) like refl refl refl h.rest (subst (λ x. IsWindow (one_taken s) x) (sym taken) yes.1) in
+          let stands : Stands M runs g (one_taken s) = took (one_taken s) like refl refl refl refl h.rest (subst (λ x. IsWindow (one_taken s) x) (sym taken) yes.1) in
           (one_taken s, steps M s (one_taken s) event.Send (reply.Send result) (sends_on ∙ (ap (λ o. sent_next s o) at ∙ ap (λ o. (reply.Send o, one_taken s)) (sym (first ∙ yes.0)))) h.rest, stands)
 
       pub send_next : (result : Option (List ℕ)) → result ≡ first_frame (window_of f.sends).unsent → (t : State) × StepOrNoMemory M s event.Send (reply.Send result) t × Stands M runs g t
@@ -390,6 +394,7 @@ module _ {R : Type 0} (M : Meaning) (runs : R → List ℕ → List Outside → 
         whole = λ none.
             let w : (f.requests ≡ length s.requests) × Carries M runs f s = h.whole none in
             (o.requests ∙ w.0, carries_same M runs f g s s w.1 (λ j. same_refl j s) refl refl first (o.causes ∙ w.1.causes_is) same.1 (subst (λ y. IsWindow s (window_of y)) (sym o.sends) w.1.window) w.1.cut_behind);
+        free = λ none uncut. o.free ∙ h.free none uncut;
       }
 
 pub passable_like : {R : Type 0} → (f g : Flight R) → SameFlight f g → (slot : Slot R) → is_passable g slot ≡ is_passable f slot

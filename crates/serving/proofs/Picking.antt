@@ -248,5 +248,6 @@ module _ {R : Type 0} (M : Meaning) (runs : R → List ℕ → List Outside → 
             held_is = o.held ∙ h.held_is;
             rest = h.rest;
             whole = λ none. (o.requests ∙ w.0, carries_picked f s w.1 new place ticket picks);
+            free = λ none uncut. o.free ∙ h.free none uncut;
           } in
           (t, steps M s t event.Pick (reply.Pick (Some ticket)) step h.rest, stands)

@@ -1,6 +1,7 @@
 -- A frame comes from the broker, and verdicts from an authority.
 use Rattle.std.specs.Prelude.{MatchBool}
-use Rattle.serving.proofs.Resting.{at_limit, rest_given, settled_given}
+use Rattle.serving.proofs.Freed.{cut_stands}
+use Rattle.serving.proofs.Resting.{at_limit, rest_given, free_rested, settled_given}
 use Rattle.serving.proofs.Asks.{give_is}
 use Rattle.std.proofs.Common.{◌≡◌, ◌≢◌, ◌∙◌, ap, refl, sym, subst, ℕ, zero, suc, ◌+◌, ◌-◌, ◌≤◌, ◌<◌, ◌^◌, ◌==◌, nat_lt, Bool, true, false, not, cond, ◌&&◌, ◌||◌, is_some, if◌then◌else◌, List, [], ◌∷◌, ◌++◌, length, drop, Option, Some, None, Result, Ok, Err, ℤ, pos, slice_get, arith, ◌⊎◌, inl, inr}
 use Rattle.std.specs.Ordering.{int_eq}
@@ -122,8 +123,11 @@ module _ {R : Type 0} (M : Meaning) (runs : R → List ℕ → List Outside → 
     abbrev ok : Rattle.conn_rules.specs.declared.event.Reply.Reply
     ok = reply.Answer (Ok tt)
 
+    no_halt : s.causes.halt ≡ None
+    no_halt = sym h.halt_is ∙ none_of f.causes.halt (no_halt_by (is_some f.causes.death) (is_some f.causes.halt) (is_some f.causes.over) alive)
+
     whole : (f.requests ≡ length s.requests) × Carries N runs f s
-    whole = h.whole (sym h.halt_is ∙ none_of f.causes.halt (no_halt_by (is_some f.causes.death) (is_some f.causes.halt) (is_some f.causes.over) alive))
+    whole = h.whole no_halt
 
     living : are_dead s.causes ≡ false
     living = ap (λ c. are_dead c) (sym whole.1.causes_is) ∙ alive
@@ -140,6 +144,7 @@ module _ {R : Type 0} (M : Meaning) (runs : R → List ℕ → List Outside → 
       held_is = h.held_is;
       rest = h.rest;
       whole = λ none. (whole.0, (let c : Carries N runs f s = whole.1 in record { first_is = c.first_is; causes_is = c.causes_is; window = subst (λ x. IsWindow s x) (sym window) c.window; there = c.there; slots = c.slots; passed = c.passed; later = c.later; cut_behind = c.cut_behind }));
+      free = h.free;
     })
 
     -- no send waits, or another one is due
@@ -228,7 +233,7 @@ module _ {R : Type 0} (M : Meaning) (runs : R → List ℕ → List Outside → 
       answer_dropped low =
           let like : (j : ℕ) → SameFor j s b = λ j. record { request = refl; main = refl; listed = λ i. refl; picked = λ i. refl; pending = λ x. none_of_others j (λ i. (let never : true ≡ false = sym x ∙ (ap (λ n. below s.causes.cut n) i ∙ low) in cc)); served = λ x. x } in
           let carries : Carries N runs g b = carries_same N runs f g s b whole.1 like refl refl g_first (g_causes ∙ whole.1.causes_is) g_slots window whole.1.cut_behind in
-          let stands : Stands N runs g b = record { halt_is = g_outside.halt ∙ h.halt_is; over_is = g_outside.over ∙ h.over_is; count_is = g_outside.count ∙ h.count_is; held_is = g_outside.held ∙ h.held_is; rest = h.rest; whole = λ none. (g_outside.requests ∙ whole.0, carries) } in
+          let stands : Stands N runs g b = record { halt_is = g_outside.halt ∙ h.halt_is; over_is = g_outside.over ∙ h.over_is; count_is = g_outside.count ∙ h.count_is; held_is = g_outside.held ∙ h.held_is; rest = h.rest; whole = λ none. (g_outside.requests ∙ whole.0, carries); free = λ none uncut. ap (λ x. x.free) is ∙ h.free none uncut } in
           (b, steps N s b e ok (matched_is ∙ ap (λ c. (ok, if c then read_body (N.unreadable o.due.1.before body) k body b else b)) low) h.rest, stands)
 
       module _ (low : below s.causes.cut k ≡ true) where
@@ -254,7 +259,7 @@ module _ {R : Type 0} (M : Meaning) (runs : R → List ℕ → List Outside → 
             let like : (j : ℕ) → SameFor j s t = λ j. record { request = refl; main = refl; listed = λ i. refl; picked = λ i. refl; pending = λ x. none_of_others j (λ i. (let never : true ≡ false = sym x ∙ (ap (λ n. below (with_cut k why s.causes).cut n) i ∙ not_low_at_cut k why s.causes) in cc)); served = low_before_cut k why s.causes j } in
             let carries : Carries N runs (cut_flight k why g) t = carries_same N runs f (cut_flight k why g) s t whole.1 like refl refl g_first (ap (λ c. with_cut k why c) (g_causes ∙ whole.1.causes_is)) g_slots (laws.stays b t (window_of g.sends) (refl, refl, refl) window) (behind_cut k why s.causes s.passed not_passed whole.1.cut_behind) in
             let rest = rest_lower N s (with_cut k why s.causes) (low_before_cut k why s.causes) h.rest in
-            let stands : Stands N runs (cut_flight k why g) t = record { halt_is = g_outside.halt ∙ h.halt_is; over_is = g_outside.over ∙ h.over_is; count_is = g_outside.count ∙ h.count_is; held_is = g_outside.held ∙ h.held_is; rest = rest; whole = λ none. (g_outside.requests ∙ whole.0, carries) } in
+            let stands : Stands N runs (cut_flight k why g) t = record { halt_is = g_outside.halt ∙ h.halt_is; over_is = g_outside.over ∙ h.over_is; count_is = g_outside.count ∙ h.count_is; held_is = g_outside.held ∙ h.held_is; rest = rest; whole = λ none. (g_outside.requests ∙ whole.0, carries); free = λ none cut. absurd (cut_stands (with_cut k why s.causes).cut k (not_low_at_cut k why s.causes) cut) } in
             (t, steps N s t e ok step rest, subst (λ x. Stands N runs x t) same stands)
 
         given_by : (new : Flight R) (n : ℕ) → n ≡ k → N.unreadable o.due.1.before body ≡ None → SameOutside f new → FlightGives M runs n (Body body) g new → Leads e ok new
@@ -269,7 +274,11 @@ module _ {R : Type 0} (M : Meaning) (runs : R → List ℕ → List Outside → 
             let place : ℕ = k - first_of g in
             let there' : slice_get u.requests k ≡ Some (record kept.request { given = kept.request.given ++ Body body ∷ [] }) = ap (λ t. slice_get t.requests k) (give_is k kept.request (Body body) b kept.there) ∙ set_here s.requests k kept.request _ kept.there in
             let settles' : MatchBool (rests_in (slice_get gives.mid.slots.items place)) (new ≡ gives.mid) (FlightSettles N runs gives.mid new) = at_limit (new ≡ gives.mid) (λ limit. FlightSettles (limited limit M) runs gives.mid new) (rests_in (slice_get gives.mid.slots.items place)) (subst (λ m. MatchBool (rests_in (slice_get gives.mid.slots.items (m - first_of g))) (new ≡ gives.mid) ((limit : ℕ) → FlightSettles (limited limit M) runs gives.mid new)) n_is gives.settles) f.limit in
-            let done = settled_given N runs gives.mid new u place (rests_in (slice_get gives.mid.slots.items place)) refl settles' (omega (arith, counts.count, whole.0, gives.small, g_outside.requests)) carries (λ after found rest. rest_given N runs b k (Body body) kept.request gives'.slot after gives'.run kept.there there' kept.stage kept.main gives'.waits (subst (λ m. Keeps N runs u m after) (let e : u.passed + place ≡ k = omega (arith, number, counts.passed) in e) (carries.slots place after found)) rest h.rest) in
+            let done = settled_given N runs gives.mid new u place (rests_in (slice_get gives.mid.slots.items place)) refl settles' (omega (arith, counts.count, whole.0, gives.small, g_outside.requests)) carries (λ after found rest.
+            let there_kept : Keeps N runs u k after = subst (λ m. Keeps N runs u m after) (let e : u.passed + place ≡ k = omega (arith, number, counts.passed) in e) (carries.slots place after found) in (
+              rest_given N runs b k (Body body) kept.request gives'.slot after gives'.run kept.there there' kept.stage kept.main gives'.waits there_kept rest h.rest,
+              λ uncut. gives'.rest.free ∙ (ap (λ x. x.free) is ∙ (h.free no_halt uncut ∙ sym (free_rested N runs b k (Body body) kept.request gives'.slot after gives'.run kept.there there' kept.stage kept.main gives'.waits there_kept rest))),
+            )) in
             (done.0, steps_settling N s u done.0 e ok (read_is None readable) done.1.settles, stands_settled M runs f.limit f new s u done.0 h whole.1 whole.0 outside counts done.1)
 
         answer_read : (cause : Option Cause) (new : Flight R) → cause_function cause ≡ N.unreadable owner.before body → SameOutside f new → GivesBodyBy M runs cause owner body g new → Leads e ok new
@@ -352,8 +361,11 @@ module _ {R : Type 0} (M : Meaning) (runs : R → List ℕ → List Outside → 
       moving : are_still s.causes ≡ false
       moving = sym still_is ∙ going
 
+      unhalted : s.causes.halt ≡ None
+      unhalted = sym h.halt_is ∙ none_of f.causes.halt (still_none (is_some f.causes.halt) (is_some f.causes.over) going)
+
       all : (f.requests ≡ length s.requests) × Carries (limited f.limit M) runs f s
-      all = h.whole (sym h.halt_is ∙ none_of f.causes.halt (still_none (is_some f.causes.halt) (is_some f.causes.over) going))
+      all = h.whole unhalted
 
       pub complete_other : (hold_at f k ≡ Some i → ⊥) → Leads M runs f s V (reply.Complete (Err (complete_fault.NotWaiting verdict))) f
       complete_other other = (s, steps (limited f.limit M) s s V _ (refused_by (inr (other_hold i (open_hold (limited f.limit M) s k) (λ e. other (hold_is (limited f.limit M) runs f s all.1 k ∙ e))))) h.rest, h)
@@ -379,5 +391,9 @@ module _ {R : Type 0} (M : Meaning) (runs : R → List ℕ → List Outside → 
             let counts : SameCounts s u = counts_given M runs f.limit s k s.answered (Verdict verdict) kept.request kept.there in
             let there' : slice_get u.requests k ≡ Some (record kept.request { given = kept.request.given ++ Verdict verdict ∷ [] }) = ap (λ t. slice_get t.requests k) (give_is k kept.request (Verdict verdict) s kept.there) ∙ set_here s.requests k kept.request _ kept.there in
             let settles' : MatchBool (rests_in (slice_get gives.mid.slots.items place)) (new ≡ gives.mid) (FlightSettles (limited f.limit M) runs gives.mid new) = at_limit (new ≡ gives.mid) (λ limit. FlightSettles (limited limit M) runs gives.mid new) (rests_in (slice_get gives.mid.slots.items place)) gives.settles f.limit in
-            let done = settled_given (limited f.limit M) runs gives.mid new u place (rests_in (slice_get gives.mid.slots.items place)) refl settles' (omega (arith, counts.count, all.0, gives.small)) carries (λ after found rest. rest_given (limited f.limit M) runs s k (Verdict verdict) kept.request gives.gives.slot after gives.gives.run kept.there there' kept.stage kept.main gives.gives.waits (subst (λ m. Keeps (limited f.limit M) runs u m after) (let e : u.passed + place ≡ k = omega (arith, number, counts.passed) in e) (carries.slots place after found)) rest h.rest) in
+            let done = settled_given (limited f.limit M) runs gives.mid new u place (rests_in (slice_get gives.mid.slots.items place)) refl settles' (omega (arith, counts.count, all.0, gives.small)) carries (λ after found rest.
+            let there_kept : Keeps (limited f.limit M) runs u k after = subst (λ m. Keeps (limited f.limit M) runs u m after) (let e : u.passed + place ≡ k = omega (arith, number, counts.passed) in e) (carries.slots place after found) in (
+              rest_given (limited f.limit M) runs s k (Verdict verdict) kept.request gives.gives.slot after gives.gives.run kept.there there' kept.stage kept.main gives.gives.waits there_kept rest h.rest,
+              λ uncut. gives.gives.rest.free ∙ (h.free unhalted uncut ∙ sym (free_rested (limited f.limit M) runs s k (Verdict verdict) kept.request gives.gives.slot after gives.gives.run kept.there there' kept.stage kept.main gives.gives.waits there_kept rest)),
+            )) in
             (done.0, steps_settling (limited f.limit M) s u done.0 V (reply.Complete (Ok tt)) completes done.1.settles, stands_settled M runs f.limit f new s u done.0 h all.1 all.0 outside counts done.1)

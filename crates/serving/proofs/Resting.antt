@@ -14,9 +14,11 @@ use Rattle.serving.specs.declared.slot.Slot.{Slot}
 use Rattle.serving.specs.declared.slot.Stage.{Stage}
 use Rattle.serving.specs.declared.slot.Stage.TheVariants as stage
 use Rattle.serving.specs.Slots.{is_ready, holds_none_back, stage_rests, rests, rests_in, awaits_response, waiting_run, lists_at, has_main, IsStage, Keeps}
-use Rattle.serving.specs.Listing.{SameCounts, Carries, IsSettled, FlightSettles}
+use Rattle.serving.specs.Listing.{SameCounts, Carries, TellsFree, IsSettled, FlightSettles}
 use Rattle.serving.proofs.Places.{eqb_same}
 use Rattle.serving.proofs.Settle.{IsAtRest, no_act_by, lets_by, if_none}
+use Rattle.serving.proofs.Asks.{give_is}
+use Rattle.serving.proofs.Freed.{free_given}
 use Rattle.serving.proofs.Sweeping.{counts_refl}
 
 -- it has nothing to do
@@ -55,28 +57,39 @@ at_limit P Q true h limit = h
 at_limit P Q false h limit = h limit
 
 module _ {R : Type 0} (M : Meaning) (runs : R → List ℕ → List Outside → Type 0) where
-  pub rest_given : (b : State) (k : ℕ) (x : Outside) (r : Request) (before after : Slot R) (run : R) → slice_get b.requests k ≡ Some r → slice_get (give k x b).requests k ≡ Some (record r { given = r.given ++ x ∷ [] }) → IsStage M runs r.frame r.given before.stage → before.main_listed ≡ has_main b.sends k → waiting_run before.stage ≡ Some run → Keeps M runs (give k x b) k after → rests after ≡ true → next_act M b ≡ None → next_act M (give k x b) ≡ None
-  rest_given b k x r before after run there later_there is main waits kept rest none =
-      let u : State = give k x b in
-      let same : kept.request ≡ record r { given = r.given ++ x ∷ [] } = (let e : Some kept.request ≡ Some (record r { given = r.given ++ x ∷ [] }) = sym kept.there ∙ later_there in cc) in
-      let listed_here : awaits_response after.stage ≡ true → is_listed b.sends k (length kept.request.given) ≡ true = λ e.
-      ap (λ i. is_listed b.sends k i) (sym kept.given) ∙ (kept.listed after.given (omega arith) ∙ (ap (λ y. y && (after.given == after.given)) e ∙ eqb_same after.given)) in
-      let no_act : act_at M u k ≡ None =
-      ap (λ found. act_in M u k found) kept.there
-      ∙ if_none M runs (below u.causes.cut k) _ (no_act_by M runs b.sends k (length kept.request.given) (free_before M u k) kept.request.frame kept.request.given after.stage kept.stage listed_here (at_rest after.main_listed (free_before M u k) after.stage rest)) in
-      let now : lets_go b.sends k (M.status r.frame (r.given ++ x ∷ [])) ≡ has_main b.sends k =
-      ap (λ q. lets_go b.sends k (M.status q.frame q.given)) (sym same) ∙ (lets_by M runs b.sends k kept.request.frame kept.request.given after.stage after.main_listed kept.stage kept.main ∙ (lets_main after.main_listed after.stage rest ∙ kept.main)) in
-      let then_ : lets_go b.sends k (M.status r.frame r.given) ≡ has_main b.sends k =
-      lets_by M runs b.sends k r.frame r.given before.stage before.main_listed is main ∙ (lets_waiting before.main_listed before.stage run waits ∙ main) in
-      (sweeps M).given_quietly b k x r there none no_act (now ∙ sym then_)
+  module _ (b : State) (k : ℕ) (x : Outside) (r : Request) (before after : Slot R) (run : R) (there : slice_get b.requests k ≡ Some r) (later_there : slice_get (give k x b).requests k ≡ Some (record r { given = r.given ++ x ∷ [] })) (is : IsStage M runs r.frame r.given before.stage) (main : before.main_listed ≡ has_main b.sends k) (waits : waiting_run before.stage ≡ Some run) (kept : Keeps M runs (give k x b) k after) (rest : rests after ≡ true) where
+    same : kept.request ≡ record r { given = r.given ++ x ∷ [] }
+    same = let e : Some kept.request ≡ Some (record r { given = r.given ++ x ∷ [] }) = sym kept.there ∙ later_there in cc
 
-  found_rests : (u : State) (there : Option (Slot R)) → rests_in there ≡ true → ((after : Slot R) → there ≡ Some after → rests after ≡ true → next_act M u ≡ None) → next_act M u ≡ None
-  found_rests u None is quiet = cc
-  found_rests u (Some after) is quiet = quiet after refl is
+    lets_now : lets_go b.sends k (M.status r.frame (r.given ++ x ∷ [])) ≡ has_main b.sends k
+    lets_now = ap (λ q. lets_go b.sends k (M.status q.frame q.given)) (sym same) ∙ (lets_by M runs b.sends k kept.request.frame kept.request.given after.stage after.main_listed kept.stage kept.main ∙ (lets_main after.main_listed after.stage rest ∙ kept.main))
+
+    lets_before : lets_go b.sends k (M.status r.frame r.given) ≡ has_main b.sends k
+    lets_before = lets_by M runs b.sends k r.frame r.given before.stage before.main_listed is main ∙ (lets_waiting before.main_listed before.stage run waits ∙ main)
+
+    pub rest_given : next_act M b ≡ None → next_act M (give k x b) ≡ None
+    rest_given none =
+        let u : State = give k x b in
+        let listed_here : awaits_response after.stage ≡ true → is_listed b.sends k (length kept.request.given) ≡ true = λ e.
+        ap (λ i. is_listed b.sends k i) (sym kept.given) ∙ (kept.listed after.given (omega arith) ∙ (ap (λ y. y && (after.given == after.given)) e ∙ eqb_same after.given)) in
+        let no_act : act_at M u k ≡ None =
+        ap (λ found. act_in M u k found) kept.there
+        ∙ if_none M runs (below u.causes.cut k) _ (no_act_by M runs b.sends k (length kept.request.given) (free_before M u k) kept.request.frame kept.request.given after.stage kept.stage listed_here (at_rest after.main_listed (free_before M u k) after.stage rest)) in
+        (sweeps M).given_quietly b k x r there none no_act (lets_now ∙ sym lets_before)
+
+    -- and what holds back later main sends is as it was
+    pub free_rested : free_before M (give k x b) (length (give k x b).requests) ≡ free_before M b (length b.requests)
+    free_rested =
+        ap (λ u. free_before M u (length u.requests)) (give_is k r x b there)
+        ∙ free_given M b k r (record r { given = r.given ++ x ∷ [] }) there (lets_now ∙ sym lets_before)
+
+  found_rests : {P : Type 0} → (there : Option (Slot R)) → rests_in there ≡ true → ((after : Slot R) → there ≡ Some after → rests after ≡ true → P) → P
+  found_rests None is quiet = cc
+  found_rests (Some after) is quiet = quiet after refl is
 
   -- so it is settled, with or without a sweep
-  pub settled_given : (mid new : Flight R) (u : State) (place : ℕ) (rested : Bool) → rests_in (slice_get mid.slots.items place) ≡ rested → MatchBool rested (new ≡ mid) (FlightSettles M runs mid new) → length u.requests < 2 ^ 64 → Carries M runs mid u → ((after : Slot R) → slice_get mid.slots.items place ≡ Some after → rests after ≡ true → next_act M u ≡ None) → (t : State) × IsSettled M runs new u t
+  pub settled_given : (mid new : Flight R) (u : State) (place : ℕ) (rested : Bool) → rests_in (slice_get mid.slots.items place) ≡ rested → MatchBool rested (new ≡ mid) (FlightSettles M runs mid new) → length u.requests < 2 ^ 64 → Carries M runs mid u → ((after : Slot R) → slice_get mid.slots.items place ≡ Some after → rests after ≡ true → (next_act M u ≡ None) × TellsFree M mid u) → (t : State) × IsSettled M runs new u t
   settled_given mid new u place true is same small carries quiet =
-      let none : next_act M u ≡ None = found_rests u (slice_get mid.slots.items place) is quiet in
-      (u, record { settles = (sweeps M).rests u none; carries = subst (λ f. Carries M runs f u) (sym same) carries; counts = counts_refl u })
+      let found : (next_act M u ≡ None) × TellsFree M mid u = found_rests (slice_get mid.slots.items place) is quiet in
+      (u, record { settles = (sweeps M).rests u found.0; carries = subst (λ f. Carries M runs f u) (sym same) carries; counts = counts_refl u; free = subst (λ f. TellsFree M f u) (sym same) found.1 })
   settled_given mid new u place false is settles small carries quiet = settles u small carries

@@ -24,6 +24,7 @@ use Rattle.serving.specs.Services.{awaits_answer_to, IsDone}
 use Rattle.serving.specs.Slots.{is_ready, holds_none_back, lists_at, may_list, awaits_response, has_main, IsStage, Keeps}
 use Rattle.serving.specs.Listing.{SameFor, OnlyAt, IsSweptTo, IsSweptPast, SettlesOn, GoesTo, IsSettledAt, SettlesAt, Advances}
 use Rattle.serving.proofs.Places.{eqb_same}
+use Rattle.serving.proofs.Freed.{cut_stands}
 use Rattle.serving.proofs.Same.{same_cut, only_cut, goes_refl, goes_trans, keeps_same, not_low_at_cut}
 use Rattle.serving.proofs.Asks.{low_act}
 
@@ -106,7 +107,7 @@ module _ {R : Type 0} (M : Meaning) (runs : R → List ℕ → List Outside → 
             causes_is = ap (λ c. with_cut k why c) same;
             kept = keeps_same M runs t (cut_at k why t) k slot (same_cut k k why t) h.kept;
             window = laws.stays t (cut_at k why t) w (refl, refl, refl) h.window;
-            past_is = (sweeps M).ends_at_cut (cut_at k why t) k (not_low_at_cut k why t.causes) quiet;
+            past_is = ((sweeps M).ends_at_cut (cut_at k why t) k (not_low_at_cut k why t.causes) quiet, cut_stands (cut_at k why t).causes.cut k (not_low_at_cut k why t.causes));
           }
 
   -- what one request does by itself, behind what it listed
@@ -115,7 +116,7 @@ module _ {R : Type 0} (M : Meaning) (runs : R → List ℕ → List Outside → 
     pub settles_none : below causes.cut k ≡ false → SettlesAt M runs k free causes old w None causes old w
     settles_none low s same h =
         let low' : below s.causes.cut k ≡ false = ap (λ c. below c.cut k) (sym same) ∙ low in
-        (s, record { goes = goes_refl M k s; causes_is = same; kept = h.kept; window = h.window; past_is = (sweeps M).ends_at_cut s k low' h.quiet })
+        (s, record { goes = goes_refl M k s; causes_is = same; kept = h.kept; window = h.window; past_is = ((sweeps M).ends_at_cut s k low' h.quiet, cut_stands s.causes.cut k low') })
 
     module _ (low : below causes.cut k ≡ true) (lists : Advances M runs k free old w new v) where
       settled_by : (s t : State) (causes' : Causes) (past : Option Bool) (u : State) → GoesTo M k s t → IsSettledAt M runs k t causes' new v past u → IsSettledAt M runs k s causes' new v past u

@@ -14,12 +14,9 @@ use Rattle.correlation.specs.IsWindow.{IsWindow}
 use Rattle.serving.specs.declared.flight.Flight.{Flight}
 use Rattle.serving.specs.declared.slot.Slot.{Slot}
 use Rattle.serving.specs.Flights.{first_of}
-use Rattle.serving.specs.Slots.{holds_none_back, all_free, Keeps, IsPassed, IsUntouched}
-use Rattle.serving.specs.Listing.{SameFor, OnlyAt, IsCutBehind, SameOutside, SameCounts, IsSweptTo, IsSweptPast, SettlesOn, GoesTo, IsSettledAt, SettlesAt, Carries, IsSettled, FlightSettles, FlightSettlesFrom, IsSweptUpTo, SettlesUpTo}
-use Rattle.conn_rules.proofs.Lists.{one_more}
-use Rattle.conn_rules.specs.Settling.{lets_later_go as lets_go}
-use Rattle.serving.proofs.Settle.{lets_by}
-use Rattle.serving.proofs.Free.{all_free_behind}
+use Rattle.serving.specs.Slots.{Keeps, IsPassed, IsUntouched}
+use Rattle.serving.specs.Listing.{SameFor, OnlyAt, IsCutBehind, SameOutside, SameCounts, IsSweptTo, IsSweptPast, SettlesOn, GoesTo, IsSettledAt, SettlesAt, Carries, IsSettled, AreQuiet, FlightSettles, FlightSettlesFrom, IsSweptUpTo, SettlesUpTo}
+use Rattle.serving.proofs.Freed.{free_past}
 use Rattle.serving.proofs.Places.{set_here, set_other, all_of, dropped, is_there}
 use Rattle.serving.proofs.Same.{keeps_same, passed_same, untouched_same}
 
@@ -59,40 +56,28 @@ module _ {R : Type 0} (M : Meaning) (runs : R → List ℕ → List Outside → 
   pub quiet_first : (f : Flight R) (s : State) → Carries M runs f s → IsQuietBefore M s (s.passed + 0)
   quiet_first f s h = subst (λ n. IsQuietBefore M s n) (let at : s.passed ≡ s.passed + 0 = omega arith in at) ((sweeps M).answered_quiet s s.passed (all_done f s h))
 
-  pub from_first : (old new : Flight R) → FlightSettlesFrom M runs 0 old new → FlightSettles M runs old new
-  from_first old new settles s small h = settles s small h (quiet_first old s h)
+  -- and hold back no later main send
+  free_first : (f : Flight R) (s : State) → Carries M runs f s → true ≡ free_before M s (s.passed + 0)
+  free_first f s h = sym (subst (λ n. free_before M s n ≡ true) (let at : s.passed ≡ s.passed + 0 = omega arith in at) ((sweeps M).answered_free s s.passed (all_done f s h)))
 
-  -- whether any request before a place holds back later main sends is seen from the slots
-  free_scanned : (f : Flight R) (s : State) → Carries M runs f s → (n : ℕ) → n ≤ length f.slots.items → all_free (take n f.slots.items) ≡ free_before M s (s.passed + n)
-  free_scanned f s h zero le = sym (subst (λ n. free_before M s n ≡ true) (let at : s.passed ≡ s.passed + 0 = omega arith in at) ((sweeps M).answered_free s s.passed (all_done f s h)))
-  free_scanned f s h (suc n) le =
-      let there : (slot : Slot R) × (slice_get f.slots.items n ≡ Some slot) = is_there f.slots.items n (omega (arith, le)) in
-      let slot : Slot R = there.0 in
-      let kept : Keeps M runs s (s.passed + n) slot = h.slots n slot there.1 in
-      let lets : lets_go s.sends (s.passed + n) (M.status kept.request.frame kept.request.given) ≡ holds_none_back slot = lets_by M runs s.sends (s.passed + n) kept.request.frame kept.request.given slot.stage slot.main_listed kept.stage kept.main in
-      let number : suc (s.passed + n) ≡ s.passed + suc n = omega arith in
-      ap (λ xs. all_free xs) (one_more f.slots.items n slot there.1)
-      ∙ (all_free_behind (take n f.slots.items) slot
-      ∙ (ap (λ b. b && holds_none_back slot) (free_scanned f s h n (omega (arith, le)))
-      ∙ (ap (λ b. free_before M s (s.passed + n) && b) (sym lets)
-      ∙ (sym ((sweeps M).freed s (s.passed + n) kept.request kept.there)
-      ∙ ap (λ k. free_before M s k) number))))
+  pub from_first : (old new : Flight R) → FlightSettlesFrom M runs 0 true old new → FlightSettles M runs old new
+  from_first old new settles s small h = settles s small h (record { quiet = quiet_first old s h; free_is = free_first old s h })
 
   -- the sweep begins at a place before which nothing is to be done
-  pub begins : (f : Flight R) (from : ℕ) (free : Bool) → from ≤ length f.slots.items → free ≡ all_free (take from f.slots.items) → SettlesUpTo M runs from from free f f
-  begins f from free le is s small h quiet = (
+  pub begins : (f : Flight R) (from : ℕ) (free : Bool) → SettlesUpTo M runs from free from free f f
+  begins f from free s small h before = (
     s,
     record {
       settles = λ u done. done;
       carries = h;
       counts = counts_refl s;
-      quiet = quiet;
-      free_is = is ∙ free_scanned f s h from le;
+      quiet = before.quiet;
+      free_is = before.free_is;
     },
   )
 
   -- and goes on to the next, or ends
-  module _ (from place : ℕ) (free : Bool) (old mid new : Flight R) (before after : Slot R) (past : Option Bool) (so_far : SettlesUpTo M runs from place free old mid)
+  module _ (from : ℕ) (first : Bool) (place : ℕ) (free : Bool) (old mid new : Flight R) (before after : Slot R) (past : Option Bool) (so_far : SettlesUpTo M runs from first place free old mid)
       (there : slice_get mid.slots.items place ≡ Some before)
       (slots : new.slots.items ≡ slice_set mid.slots.items place after)
       (counts : (new.count ≡ mid.count) × (new.requests ≡ mid.requests))
@@ -136,7 +121,7 @@ module _ {R : Type 0} (M : Meaning) (runs : R → List ℕ → List Outside → 
       far : IsSweptUpTo M runs place free mid s before_it
       here : IsSettledAt M runs k before_it new.causes after (window_of new.sends) past to
 
-    went : (s : State) → length s.requests < 2 ^ 64 → Carries M runs old s → IsQuietBefore M s (s.passed + from) → Went s
+    went : (s : State) → length s.requests < 2 ^ 64 → Carries M runs old s → AreQuiet M from first s → Went s
     went s small h q =
         let far = so_far s small h q in
         let t : State = far.0 in
@@ -154,7 +139,7 @@ module _ {R : Type 0} (M : Meaning) (runs : R → List ℕ → List Outside → 
         let here = settles k refl fits t far.1.carries.causes_is swept in
         record { before_it = t; to = here.0; k = k; number = number; far = far.1; here = here.1 }
 
-    pub goes_on : (lets : Bool) → past ≡ Some lets → SettlesUpTo M runs from (place + 1) lets old new
+    pub goes_on : (lets : Bool) → past ≡ Some lets → SettlesUpTo M runs from first (place + 1) lets old new
     goes_on lets is s small h q =
         let w : Went s = went s small h q in
         let next : (IsQuietBefore M w.to (suc w.k)) × (lets ≡ free_before M w.to (suc w.k)) = subst (λ p. IsSweptPast M w.to w.k p) is w.here.past_is in
@@ -169,22 +154,32 @@ module _ {R : Type 0} (M : Meaning) (runs : R → List ℕ → List Outside → 
           },
         )
 
-    pub ends_early : past ≡ None → FlightSettlesFrom M runs from old new
+    pub ends_early : past ≡ None → FlightSettlesFrom M runs from first old new
     ends_early is s small h q =
         let w : Went s = went s small h q in
-        let rest : next_act M w.to ≡ None = subst (λ p. IsSweptPast M w.to w.k p) is w.here.past_is in (
+        let rest : (next_act M w.to ≡ None) × (w.to.causes.cut ≢ None) = subst (λ p. IsSweptPast M w.to w.k p) is w.here.past_is in (
           w.to,
           record {
-            settles = w.far.settles w.to (w.here.goes.settles w.to ((sweeps M).rests w.to rest));
+            settles = w.far.settles w.to (w.here.goes.settles w.to ((sweeps M).rests w.to rest.0));
             carries = carried w.k w.before_it w.to w.number w.far.carries w.here;
             counts = counts_only w.k s w.before_it w.to w.far.counts w.here.goes.only;
+            free = λ none. absurd (rest.1 none);
           },
         )
 
   -- behind the last request nothing is left to do
-  pub ends : (from place : ℕ) (free : Bool) (old new : Flight R) → SettlesUpTo M runs from place free old new → length old.slots.items ≤ place → FlightSettlesFrom M runs from old new
-  ends from place free old new so_far le s small h q =
+  pub ends : (from : ℕ) (first : Bool) (place : ℕ) (free : Bool) (old new : Flight R) → SettlesUpTo M runs from first place free old new → length old.slots.items ≤ place → FlightSettlesFrom M runs from first old (record new { free = free })
+  ends from first place free old new so_far le s small h q =
       let far = so_far s small h q in
       let t : State = far.0 in
-      let rest : next_act M t ≡ None = (sweeps M).ends t (t.passed + place) (omega (arith, le, h.there, far.1.counts.passed, far.1.counts.count)) far.1.quiet in
-      (t, record { settles = far.1.settles t ((sweeps M).rests t rest); carries = far.1.carries; counts = far.1.counts })
+      let past : length t.requests ≤ t.passed + place = omega (arith, le, h.there, far.1.counts.passed, far.1.counts.count) in
+      let rest : next_act M t ≡ None = (sweeps M).ends t (t.passed + place) past far.1.quiet in
+      let c : Carries M runs new t = far.1.carries in (
+        t,
+        record {
+          settles = far.1.settles t ((sweeps M).rests t rest);
+          carries = record { first_is = c.first_is; causes_is = c.causes_is; window = c.window; there = c.there; slots = c.slots; passed = c.passed; later = c.later; cut_behind = c.cut_behind };
+          counts = far.1.counts;
+          free = λ none. far.1.free_is ∙ free_past M t (t.passed + place) past;
+        },
+      )

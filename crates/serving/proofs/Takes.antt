@@ -14,7 +14,7 @@ use Rattle.conn_rules.specs.declared.event.TakeFault.TheVariants as take_fault
 use Rattle.conn_rules.specs.Causes.{below, first_cause, with_cut, with_halt, are_ending}
 use Rattle.conn_rules.specs.Meaning.{Meaning}
 use Rattle.conn_rules.specs.Room.{has_room, limited}
-use Rattle.conn_rules.specs.Sweep.{IsQuietBefore, SweepLaws}
+use Rattle.conn_rules.specs.Sweep.{IsQuietBefore, free_before, SweepLaws}
 use Rattle.conn_rules.proofs.Sweep.{sweeps}
 use Rattle.conn_rules.specs.State.{Outside, Request, State, cut_at, halted, held, in_flight}
 use Rattle.conn_rules.specs.Steps.{joined, take_step, answer_to, StepOrNoMemory}
@@ -27,11 +27,12 @@ use Rattle.serving.specs.declared.slot.Slot.{Slot}
 use Rattle.serving.specs.Causes.{why_of}
 use Rattle.serving.specs.Flights.{first_of}
 use Rattle.serving.specs.Slots.{fresh_slot, stage_of, awaits_response, awaits_verdict, one_if, Keeps, IsPassed, IsUntouched}
-use Rattle.serving.specs.Listing.{SameFor, SameOutside, Carries, IsSettled}
+use Rattle.serving.specs.Listing.{SameFor, SameOutside, Carries, IsSettled, AreQuiet}
 use Rattle.serving.specs.Stands.{Stands, Joins, Counts, FlightTakes, FlightTakesBy, cut_flight}
 use Rattle.serving.proofs.Places.{behind_here, behind_before}
 use Rattle.serving.proofs.Same.{keeps_same, passed_same}
 use Rattle.serving.proofs.Asks.{stage_is, begun_unanswered, begun_unpicked}
+use Rattle.serving.proofs.Freed.{free_joined}
 use Rattle.serving.proofs.Notes.{steps, steps_settling, gives_up, stands_cut}
 
 pub some_halt : (h : Option End) (why : End) → first_cause h why ≡ None → ⊥
@@ -62,6 +63,7 @@ module _ {R : Type 0} (M : Meaning) (runs : R → List ℕ → List Outside → 
     held_is = outside.held ∙ h.held_is;
     rest = h.rest;
     whole = λ none. absurd (some_halt s.causes.halt end.NoMemory none);
+    free = λ none. absurd (some_halt s.causes.halt end.NoMemory none);
   }
 
 module _ {R : Type 0} (M : Meaning) (runs : R → List ℕ → List Outside → Type 0) (f : Flight R) (s : State) where
@@ -78,6 +80,12 @@ module _ {R : Type 0} (M : Meaning) (runs : R → List ℕ → List Outside → 
 
       going : are_ending s.causes ≡ false
       going = ap (λ c. are_ending c) (sym whole.1.causes_is) ∙ ending
+
+      no_halt : s.causes.halt ≡ None
+      no_halt = none_of s.causes.halt (no_halt_by (is_some s.causes.cut) (is_some s.causes.death) (is_some s.causes.halt) (is_some s.causes.over) going)
+
+      no_cut : s.causes.cut ≡ None
+      no_cut = none_of s.causes.cut (no_cut_by (is_some s.causes.cut) (is_some s.causes.death) (is_some s.causes.halt) (is_some s.causes.over) going)
 
       room_is : N.room (in_flight s) (held s) (length frame) ≡ has_room f.limit f.count f.held (length frame)
       room_is = ap (λ n. has_room f.limit n (held s) (length frame)) (sym h.count_is) ∙ ap (λ n. has_room f.limit f.count n (length frame)) (sym h.held_is)
@@ -163,10 +171,17 @@ module _ {R : Type 0} (M : Meaning) (runs : R → List ℕ → List Outside → 
             cut_behind = whole.1.cut_behind;
           }
 
+          -- none of the others has anything to do
+          quiet : AreQuiet N (length f.slots.items) f.free u
+          quiet = record {
+            quiet = subst (λ n. IsQuietBefore N u n) (sym whole.1.there) ((sweeps N).joins_behind s r h.rest);
+            free_is = h.free no_halt no_cut ∙ (sym (free_joined N s r) ∙ ap (λ n. free_before N u n) (sym whole.1.there));
+          }
+
           joins : (t : State) × StepOrNoMemory N s (event.Take frame) (reply.Take (Ok tt)) t × Stands N runs new t
           joins =
               let small : length u.requests < 2 ^ 64 = omega (arith, long, whole.0, counts.small) in
-              let done = counts.settles f.limit u small joined_carries (subst (λ n. IsQuietBefore N u n) (sym whole.1.there) ((sweeps N).joins_behind s r h.rest)) in
+              let done = counts.settles f.limit u small joined_carries quiet in
               let t : State = done.0 in
               let settled : IsSettled N runs counts.settled u t = done.1 in
               let step : answer_to N s (event.Take frame) ≡ (reply.Take (Ok tt), u) = takes ∙ ap (λ x. (reply.Take (Ok tt), joined x frame s)) join.no_cause in
@@ -185,6 +200,7 @@ module _ {R : Type 0} (M : Meaning) (runs : R → List ℕ → List Outside → 
                 held_is = omega (arith, h.held_is, size, settled.counts.held_is);
                 rest = settled.settles.rest;
                 whole = λ none. (omega (arith, whole.0, settled.counts.count, long), carries);
+                free = λ none. settled.free;
               } in
               (t, steps_settling N s u t (event.Take frame) (reply.Take (Ok tt)) step settled.settles, subst (λ x. Stands N runs x t) (sym counts.new_is) stands)
 

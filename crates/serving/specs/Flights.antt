@@ -23,6 +23,7 @@ module _ {R : Type 0} where
     pub requests : f.requests ≡ 0
     pub causes : f.causes ≡ no_causes
     pub slots : f.slots.items ≡ []
+    pub free : f.free ≡ true
     pub sends : window_of f.sends ≡ fresh_window
 
   -- the number of the oldest request in flight
@@ -44,6 +45,7 @@ module _ {R : Type 0} where
     pub held : new.held ≡ old.held
     pub requests : new.requests ≡ old.requests
     pub causes : new.causes ≡ old.causes
+    pub free : new.free ≡ old.free
     pub sends : new.sends ≡ old.sends
 
   abbrev pub SameFlight : Flight R → Flight R → Type 0
@@ -80,6 +82,7 @@ module _ {R : Type 0} where
     pub held : new.held ≡ old.held - slot.size
     pub requests : new.requests ≡ old.requests
     pub causes : new.causes ≡ old.causes
+    pub free : new.free ≡ old.free
     pub sends : new.sends ≡ old.sends
 
   abbrev pub PassesFront : Flight R → Option (Slot R) → Flight R → Type 0

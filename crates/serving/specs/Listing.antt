@@ -76,10 +76,19 @@ module _ (M : Meaning) where
     pub settles : SettlesOn s t
     pub only : OnlyAt k s t
 
-  -- the sweep is past request k, or has nothing more to do
+  -- the sweep is past request k, or has nothing more to do since a cut stands
   abbrev pub IsSweptPast : State → ℕ → Option Bool → Type 0
   IsSweptPast t k (Some free) = IsQuietBefore M t (suc k) × (free ≡ free_before M t (suc k))
-  IsSweptPast t k None = next_act M t ≡ None
+  IsSweptPast t k None = (next_act M t ≡ None) × (t.causes.cut ≢ None)
+
+  -- the requests before this place have nothing to do, and hold back later main sends as `free` says
+  pub record AreQuiet (from : ℕ) (free : Bool) (s : State) : Type 0 where
+    pub quiet : IsQuietBefore M s (s.passed + from)
+    pub free_is : free ≡ free_before M s (s.passed + from)
+
+  -- where no cut stands, `free` says whether none of all requests holds back later main sends
+  abbrev pub TellsFree : {R : Type 0} → Flight R → State → Type 0
+  TellsFree f s = s.causes.cut ≡ None → f.free ≡ free_before M s (length s.requests)
 
 module _ {R : Type 0} (M : Meaning) (runs : R → List ℕ → List Outside → Type 0) where
   -- the message of request k is listed
@@ -132,13 +141,14 @@ module _ {R : Type 0} (M : Meaning) (runs : R → List ℕ → List Outside → 
     pub settles : Settles M s t
     pub carries : Carries f t
     pub counts : SameCounts s t
+    pub free : TellsFree M f t
 
   abbrev pub FlightSettles : Flight R → Flight R → Type 0
   FlightSettles old new = (s : State) → length s.requests < 2 ^ 64 → Carries old s → (t : State) × IsSettled new s t
 
-  -- the same, where the requests before this place have nothing to do
-  abbrev pub FlightSettlesFrom : ℕ → Flight R → Flight R → Type 0
-  FlightSettlesFrom from old new = (s : State) → length s.requests < 2 ^ 64 → Carries old s → IsQuietBefore M s (s.passed + from) → (t : State) × IsSettled new s t
+  -- the same, where that holds of those before this place
+  abbrev pub FlightSettlesFrom : ℕ → Bool → Flight R → Flight R → Type 0
+  FlightSettlesFrom from free old new = (s : State) → length s.requests < 2 ^ 64 → Carries old s → AreQuiet M from free s → (t : State) × IsSettled new s t
 
   -- the same, with the sweep at the slot at this place
   pub record IsSweptUpTo (place : ℕ) (free : Bool) (f : Flight R) (s t : State) : Type 0 where
@@ -148,8 +158,8 @@ module _ {R : Type 0} (M : Meaning) (runs : R → List ℕ → List Outside → 
     pub quiet : IsQuietBefore M t (t.passed + place)
     pub free_is : free ≡ free_before M t (t.passed + place)
 
-  abbrev pub SettlesUpTo : (from place : ℕ) → Bool → Flight R → Flight R → Type 0
-  SettlesUpTo from place free old new = (s : State) → length s.requests < 2 ^ 64 → Carries old s → IsQuietBefore M s (s.passed + from) → (t : State) × IsSweptUpTo place free new s t
+  abbrev pub SettlesUpTo : (from : ℕ) → (first : Bool) → (place : ℕ) → (free : Bool) → Flight R → Flight R → Type 0
+  SettlesUpTo from first place free old new = (s : State) → length s.requests < 2 ^ 64 → Carries old s → AreQuiet M from first s → (t : State) × IsSweptUpTo place free new s t
 
   -- the slot at this place was given this
   pub record GivesAt (place : ℕ) (x : Outside) (old new : Flight R) : Type 0 where

@@ -112,11 +112,6 @@ stage_left left stage.Running = 0
 abbrev pub slot_left : {R : Type 0} → (R → ℕ) → Slot R → ℕ
 slot_left left slot = stage_left left slot.stage
 
--- none of these requests holds back later main sends
-abbrev pub all_free : {R : Type 0} → List (Slot R) → Bool
-all_free [] = true
-all_free (slot ∷ slots) = holds_none_back slot && all_free slots
-
 -- A request that was just given something rests: nothing is left to do for it, and it holds back later main sends as it
 -- did while it waited.
 abbrev pub stage_rests : {R : Type 0} → Bool → Stage R → Bool

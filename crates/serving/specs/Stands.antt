@@ -20,7 +20,7 @@ use Rattle.serving.specs.Causes.{why_of}
 use Rattle.serving.specs.Flights.{first_of, hold_at, OnlySlots}
 use Rattle.serving.specs.Services.{IsProgress, cause_function}
 use Rattle.serving.specs.Slots.{fresh_slot, rests_in}
-use Rattle.serving.specs.Listing.{SameOutside, Carries, FlightSettles, FlightSettlesFrom, GivesAt}
+use Rattle.serving.specs.Listing.{SameOutside, Carries, TellsFree, FlightSettles, FlightSettlesFrom, GivesAt}
 
 -- with other causes
 abbrev pub cut_flight : {R : Type 0} → ℕ → End → Flight R → Flight R
@@ -61,6 +61,7 @@ module _ {R : Type 0} (M : Meaning) (runs : R → List ℕ → List Outside → 
     pub held_is : f.held ≡ held s
     pub rest : next_act M s ≡ None
     pub whole : s.causes.halt ≡ None → (f.requests ≡ length s.requests) × Carries M runs f s
+    pub free : s.causes.halt ≡ None → TellsFree M f s
 
   -- silent requests at the front were passed over, as far as they are done
   abbrev pub PassesAll : Flight R → Flight R → Type 0
@@ -90,7 +91,7 @@ module _ {R : Type 0} (M : Meaning) (runs : R → List ℕ → List Outside → 
   pub record Counts (frame : List ℕ) (old mid new : Flight R) : Type 0 where
     pub small : old.requests + 1 < 2 ^ 64
     pub settled : Flight R
-    pub settles : (limit : ℕ) → FlightSettlesFrom (limited limit M) runs (length old.slots.items) mid settled
+    pub settles : (limit : ℕ) → FlightSettlesFrom (limited limit M) runs (length old.slots.items) old.free mid settled
     pub outside : SameOutside mid settled
     pub new_is : new ≡ record settled { requests = old.requests + 1; count = old.count + 1; held = old.held + length frame }
 

@@ -74,7 +74,8 @@ impl<S: Service> Serving<S> {
         };
         let last = flight.slots.len();
         flight.slots.push_back(Slot::begun(size, silent, progress))?;
-        settle(&self.service, self.alloc, flight, last, steps)?;
+        let free = flight.free;
+        settle(&self.service, self.alloc, flight, last, free, steps)?;
         flight.requests = requests;
         flight.count = count;
         flight.held = held;
@@ -123,7 +124,7 @@ impl<S: Service> Serving<S> {
         if self.flight.rests_at(place) {
             return Ok(());
         }
-        settle(&self.service, self.alloc, &mut self.flight, 0, steps)
+        settle(&self.service, self.alloc, &mut self.flight, 0, true, steps)
     }
 
     /// What the rules say of a fault.

@@ -1,6 +1,6 @@
 // The requests in flight, the sends, and why the connection ends.
-ghost use Rattle.serving.specs.Slots.{all_free, rests_in};
-ghost use Rattle.std.specs.Prelude.{slice_get, take, ◌≡◌, ◌<◌, ◌^◌};
+ghost use Rattle.serving.specs.Slots.{rests_in};
+ghost use Rattle.std.specs.Prelude.{slice_get, ◌≡◌, ◌<◌, ◌^◌};
 
 use crate::frame::WholeFrame;
 use crate::slot::{Slot, Stage};
@@ -26,6 +26,8 @@ pub(crate) struct Flight<R: Drop> {
     pub(crate) causes: Causes,
     /// The requests that no emit step has passed, the oldest first.
     pub(crate) slots: VecDeque<Slot<R>>,
+    /// None of them holds back later main sends. It says so only while no cut stands.
+    pub(crate) free: bool,
     pub(crate) sends: Sends,
 }
 
@@ -44,6 +46,7 @@ impl<R: Drop> Flight<R> {
             requests: 0,
             causes: Causes::new(),
             slots: VecDeque::new(alloc),
+            free: true,
             sends: Sends::new(alloc),
         }
     }
@@ -87,21 +90,6 @@ impl<R: Drop> Flight<R> {
             Some(hold) => hold == index,
             None => false,
         }
-    }
-
-    /// No request before this place holds back later main sends.
-    pub(crate) fn is_free_at(&self, place: usize) -> bool
-        ensures { result ≡ all_free (take place self.now.slots.items) }
-    {
-        for at in 0..place {
-            let Some(slot) = self.slots.get(at) else {
-                return true;
-            };
-            if !slot.holds_none_back() {
-                return false;
-            }
-        }
-        true
     }
 
     /// The request at this place, which was just given something, leaves nothing to do.

@@ -1,6 +1,6 @@
 // What requests do by themselves: list a send for the broker, or fail. After each event the connection settles: the
 // oldest request that can do either does it, until none can.
-ghost use Rattle.std.specs.Prelude.{length, ◌≡◌, ◌<◌, ◌≤◌, ℕ, IfOk, OnOk, true, false, Some};
+ghost use Rattle.std.specs.Prelude.{◌≡◌, ◌<◌, ◌≤◌, ℕ, IfOk, OnOk, true, false, Some};
 ghost use Rattle.conn_rules.specs.Room.{limited};
 ghost use Rattle.conn_rules.specs.State.{Outside};
 ghost use Rattle.correlation.specs.WindowOf.{window_of};
@@ -106,20 +106,21 @@ fn settle_at<S: Service, L>(
     Ok(Some(free && slot.holds_none_back()))
 }
 
-/// The requests from this place on settle, where those before it have nothing to do.
+/// The requests from this place on settle, where those before it have nothing to do. `free` says that none of them holds
+/// back later main sends.
 pub(crate) fn settle<S: Service, L>(
     service: &S,
     alloc: Global,
     flight: &mut Flight<S::Run>,
     from: usize,
+    free: bool,
     steps: &mut Steps<L>,
 ) -> Result<(), NoMemory>
-    requires there { from ≤ length flight.old.slots.items }
-    ensures settles { OnOk result ((limit : ℕ) → FlightSettlesFrom (limited limit (S.meaning service.now)) (S.stands service.now) from flight.old flight.new) }
+    ensures settles { OnOk result ((limit : ℕ) → FlightSettlesFrom (limited limit (S.meaning service.now)) (S.stands service.now) from free flight.old flight.new) }
     ensures outside { SameOutside flight.old flight.new }
 {
     let first = flight.first();
-    let mut free = flight.is_free_at(from);
+    let mut free = free;
     for place in from..flight.slots.len() {
         let request = first.saturating_add(place as u64);
         let Some(slot) = flight.slots.get_mut(place) else {
@@ -132,6 +133,7 @@ pub(crate) fn settle<S: Service, L>(
             None => return Ok(()),
         }
     }
+    flight.free = free;
     Ok(())
 }
 

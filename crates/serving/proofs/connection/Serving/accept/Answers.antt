@@ -22,13 +22,13 @@ returns-clause-takes g c =
           no_cause = begun.0;
           silent_is = begun.1;
           right = begun.2;
-          rest = record { limit_is = refl; count = refl; held = refl; requests = refl; causes = refl; sends = refl };
+          rest = record { limit_is = refl; count = refl; held = refl; requests = refl; causes = refl; free = refl; sends = refl };
           slots = c.in_ok-push_back.ensures.items ∙ ap (λ x. f.slots.items ++ x ∷ []) (c.begun.ensures ∙ ap (λ n. fresh_slot n c.in-Runs.silent c.in-Runs.progress) c.len-size.ensures.value);
         },
         record {
           small = c.in-Some-Some-Some.ensures.0;
           settled = c.settle.new.flight;
-          settles = subst (λ n. (limit : ℕ) → FlightSettlesFrom (limited limit (g.S.Service.meaning c.args.self.now.service)) (g.S.Service.stands c.args.self.now.service) n (record f { slots = c.push_back.new.self }) c.settle.new.flight) (let e : c.len-last.result ≡ length f.slots.items = omega (arith, c.len-last.ensures) in e) c.in_ok-settle.ensures.settles;
+          settles = subst (λ n. (limit : ℕ) → FlightSettlesFrom (limited limit (g.S.Service.meaning c.args.self.now.service)) (g.S.Service.stands c.args.self.now.service) n f.free (record f { slots = c.push_back.new.self }) c.settle.new.flight) (let e : c.len-last.result ≡ length f.slots.items = omega (arith, c.len-last.ensures) in e) c.in_ok-settle.ensures.settles;
           outside = c.in_ok-settle.ensures.outside;
           new_is = rw (c.in-Some-Some-Some.ensures.1, c.in-Some-Some-Some.ensures'.1, c.in-Some-Some-Some.ensures''.1, c.len-size.ensures.value) refl;
         },

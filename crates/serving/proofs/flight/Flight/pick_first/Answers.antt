@@ -9,7 +9,7 @@ use Rattle.serving.proofs.flight.Flight.pick_first.Goals as goal
 picks_from : {R : Type 0} → (f g new : Flight R) (place : ℕ) (ticket : Ticket) → SameFlight f g → PicksSlot place g new ticket → PicksSlot place f new ticket
 picks_from f g new place ticket same h =
     record {
-      rest = record { limit_is = h.rest.limit_is ∙ same.0.limit_is; count = h.rest.count ∙ same.0.count; held = h.rest.held ∙ same.0.held; requests = h.rest.requests ∙ same.0.requests; causes = h.rest.causes ∙ same.0.causes; sends = h.rest.sends ∙ same.0.sends };
+      rest = record { limit_is = h.rest.limit_is ∙ same.0.limit_is; count = h.rest.count ∙ same.0.count; held = h.rest.held ∙ same.0.held; requests = h.rest.requests ∙ same.0.requests; causes = h.rest.causes ∙ same.0.causes; free = h.rest.free ∙ same.0.free; sends = h.rest.sends ∙ same.0.sends };
       slot = h.slot;
       there = ap (λ xs. slice_get xs place) (sym same.1) ∙ h.there;
       run = h.run;
