@@ -1,5 +1,5 @@
 -- A body with one item changed for another of its kind.
-use Rattle.std.proofs.Common.{◌≡◌, ◌≢◌, ℕ, ℤ, zero, suc, ◌+◌, ◌-◌, ◌<◌, ◌≤◌, Bool, true, false, List, [], ◌∷◌, ◌++◌, length, length-append, get_or, Option, Some, None, Result, Ok, Err, refl, sym, ap, ◌∙◌, subst, arith}
+use Rattle.std.proofs.Common.{◌≡◌, ◌≢◌, ℕ, ℤ, zero, suc, ◌+◌, ◌-◌, ◌<◌, ◌≤◌, Bool, true, false, List, [], ◌∷◌, ◌++◌, length, length-append, get_or, Some, None, Ok, refl, sym, ap, ◌∙◌, subst, arith}
 use Rattle.std.specs.Prelude.{slice_get, slice_set}
 use Rattle.std.specs.Option.{option_and_then}
 use Rattle.kp_schema.specs.declared.dir.Dir.{Dir}
@@ -8,15 +8,13 @@ use Rattle.kp_schema.specs.declared.kind.Kind.TheVariants as kinds
 use Rattle.tree_spelling.specs.declared.primitive.Primitive.{Primitive}
 use Rattle.tree_spelling.specs.declared.primitive.Primitive.TheVariants.{Int8, Int16, Int32, Int64, Boolean, Text, Binary, Count}
 use Rattle.tree_spelling.specs.declared.item.Item.{Item}
-use Rattle.tree_spelling.specs.declared.edit_fault.EditFault.{EditFault}
 use Rattle.tree_spelling.specs.Primitives.{spelled, kind_of, IsInRange}
 use Rattle.tree_spelling.specs.Shape.{Shape, End, Plain, Array, message_shape}
-use Rattle.tree_spelling.specs.Value.{items_of}
 use Rattle.tree_spelling.specs.Spelling.{spelling, AreInRange}
-use Rattle.tree_spelling.specs.Body.{Contents, IsTree}
+use Rattle.tree_spelling.specs.Body.{IsTree}
 use Rattle.tree_spelling.specs.Changes.{in_place_of, put_at, set_old, set_items}
 use Rattle.tree_spelling.specs.Agenda.{is_kind, after, after_array, passed}
-use Rattle.tree_spelling.proofs.Coming.{passed-append, value_of}
+use Rattle.tree_spelling.proofs.Coming.{value_of}
 use Rattle.tree_spelling.proofs.Blanks.{whole_passes, in_range-append, in_range-front, in_range-back}
 use Rattle.tree_spelling.proofs.Fronts.{spelling-append}
 

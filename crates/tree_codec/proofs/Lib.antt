@@ -2,3 +2,4 @@ pub mod Stacks
 pub mod Progress
 pub mod Steps
 pub mod Edits
+pub mod Parts

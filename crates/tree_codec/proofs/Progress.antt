@@ -1,5 +1,5 @@
 -- One step of the decoder: an item more, or the fault of the bytes.
-use Rattle.std.proofs.Common.{◌≡◌, ℕ, ℤ, ◌+◌, ◌-◌, ◌<◌, ◌≤◌, true, false, List, [], ◌∷◌, ◌++◌, length, Option, Some, None, is_some, refl, sym, ap, ◌∙◌, append-nil, length-append, arith, subst}
+use Rattle.std.proofs.Common.{◌≡◌, ℕ, ℤ, ◌+◌, ◌<◌, ◌≤◌, true, false, List, [], ◌∷◌, ◌++◌, length, Option, Some, None, is_some, refl, sym, ap, ◌∙◌, append-nil, length-append, arith, subst}
 use Rattle.std.specs.Option.{option_and_then}
 use Rattle.kp_schema.specs.declared.kind.Kind.{Kind}
 use Rattle.wire_types.specs.Reading.{Reading, Reads, unread}
@@ -7,45 +7,34 @@ use Rattle.tree_spelling.specs.declared.primitive.Primitive.{Primitive}
 use Rattle.tree_spelling.specs.declared.primitive.Primitive.TheVariants.{Count}
 use Rattle.tree_spelling.specs.Primitives.{spelled, IsInRange, entries_of, total_entries}
 use Rattle.kp_schema.specs.declared.dir.Dir.{Dir}
-use Rattle.kp_schema.specs.declared.field.Field.{Field}
-use Rattle.kp_schema.specs.Messages.{fields_of}
-use Rattle.tree_spelling.specs.Shape.{Shape, End, Plain, Array, nest, shape_of_fields, message_shape}
+use Rattle.tree_spelling.specs.Shape.{Shape, message_shape}
 use Rattle.tree_spelling.specs.Value.{Value}
-use Rattle.tree_spelling.specs.Body.{Contents, IsTree}
+use Rattle.tree_spelling.specs.Body.{IsTree}
 use Rattle.tree_spelling.specs.Building.{kind_to_come}
 use Rattle.tree_spelling.specs.Spelling.{spelling, AreInRange, IsSpelledBy, IsBadAt, HasTooManyAt, max_entries}
-use Rattle.tree_spelling.specs.Agenda.{is_kind, is_of, is_next, next_kind, after, passed, settled, ItemsReadSoFar, IsStuck, IsTooMany}
-use Rattle.tree_spelling.proofs.Coming.{settled-again, passed-append, value_of}
+use Rattle.tree_spelling.specs.Agenda.{is_kind, is_next, next_kind, after, passed, settled, ItemsReadSoFar, IsStuck, IsTooMany}
+use Rattle.tree_spelling.proofs.Coming.{passed-append, value_of}
 use Rattle.tree_spelling.proofs.Blanks.{total-append, in_range-one}
-use Rattle.tree_spelling.proofs.Fronts.{next_comes, spelling-append, some_after}
+use Rattle.tree_spelling.proofs.Fronts.{next_comes, spelling-append}
+use Rattle.tree_spelling.proofs.Endings.{has_next, kind_is_next, next_is_kind, is_settled, none_next, nothing_to_come}
 use Rattle.tree_spelling.proofs.Faults.{stuck_is_bad, too_many, all_read, one_more}
 use Rattle.tree_codec.specs.declared.decode_fault.DecodeFault.{DecodeFault}
 use Rattle.tree_codec.specs.declared.decode_fault.DecodeFault.TheVariants.{NotSpelled, TooManyEntries, NoMemory}
-use Rattle.tree_codec.specs.Faults.{IsFaultOf, IsBadFault, NoneIsSpelled}
-use Rattle.tree_codec.specs.Decoding.{AreItemsOf}
-
-has_next : (todo : List Shape) (kind : Kind) → next_kind todo ≡ Some kind → todo ≡ [] → ⊥
-has_next todo kind h e =
-    let h' : next_kind [] ≡ Some kind = subst (λ (t : List Shape). next_kind t ≡ Some kind) e h in
-    cc
-
-pub kind_is_next : (todo : List Shape) (kind : Kind) (item : Primitive) → next_kind todo ≡ Some kind → is_kind kind item ≡ true → is_next todo item ≡ true
-kind_is_next todo kind item h k = ap (λ o. is_of o item) h ∙ k
-
-next_is_kind : (todo : List Shape) (kind : Kind) (item : Primitive) → next_kind todo ≡ Some kind → is_next todo item ≡ true → is_kind kind item ≡ true
-next_is_kind todo kind item h k = sym (ap (λ o. is_of o item) h) ∙ k
+use Rattle.tree_codec.specs.Faults.{IsFaultOf, NoneIsSpelled}
+use Rattle.tree_codec.specs.Decoding.{AreItemsOf, HasFault}
+use Rattle.tree_spelling.specs.Laws.{AreBytes}
+use Rattle.tree_spelling.specs.Decoded.{decoded, AllItems}
+use Rattle.tree_spelling.proofs.Decoding.{decoded_is_spelled}
+use Rattle.std.specs.Prelude.{MatchOption}
 
 -- ---- faults
 
-pub unreadable : (s : Shape) (bytes : List ℕ) (xs : List Primitive) (todo : List Shape) (reading : Reading) (kind : Kind) (fault : DecodeFault) → ItemsReadSoFar s bytes xs todo (unread reading) → reading.at ≡ length (spelling xs) → next_kind todo ≡ Some kind → IsBadFault kind reading fault → IsFaultOf s bytes fault
-unreadable s bytes xs todo reading kind (NotSpelled at) r place next h =
-    let stuck : IsStuck todo (unread reading) = λ item behind n i e. h.1 item behind (next_is_kind todo kind item next n) i e in
-    let bad = stuck_is_bad s bytes xs todo (unread reading) r stuck (λ e _. has_next todo kind next e) in
-    subst (IsBadAt s bytes) (sym (h.0 ∙ place)) bad
-unreadable s bytes xs todo reading kind (TooManyEntries at) r place next h = absurd h
-unreadable s bytes xs todo reading kind NoMemory r place next h = tt
+pub unreadable : (s : Shape) (bytes : List ℕ) (xs : List Primitive) (todo : List Shape) (rest : List ℕ) (kind : Kind) → ItemsReadSoFar s bytes xs todo rest → next_kind todo ≡ Some kind → NoneIsSpelled kind rest → IsBadAt s bytes (length (spelling xs))
+unreadable s bytes xs todo rest kind r next none =
+    let stuck : IsStuck todo rest = λ item behind n i e. none item behind (next_is_kind todo kind item next n) i e in
+    stuck_is_bad s bytes xs todo rest r stuck (λ e _. has_next todo kind next e)
 
-pub passes_limit : (s : Shape) (bytes : List ℕ) (xs : List Primitive) (todo : List Shape) (old new : Reading) (kind : Kind) (item : Primitive) (entries : ℕ) → ItemsReadSoFar s bytes xs todo (unread old) → old.at ≡ length (spelling xs) → next_kind todo ≡ Some kind → is_kind kind item ≡ true → IsInRange item → Reads old (spelled item) new → entries ≡ total_entries xs → max_entries - entries < entries_of item → HasTooManyAt s bytes old.at
+pub passes_limit : (s : Shape) (bytes : List ℕ) (xs : List Primitive) (todo : List Shape) (old new : Reading) (kind : Kind) (item : Primitive) (entries : ℕ) → ItemsReadSoFar s bytes xs todo (unread old) → old.at ≡ length (spelling xs) → next_kind todo ≡ Some kind → is_kind kind item ≡ true → IsInRange item → Reads old (spelled item) new → entries ≡ total_entries xs → max_entries < entries + entries_of item → HasTooManyAt s bytes old.at
 passes_limit s bytes xs todo old new kind (Count (Some n)) entries r place next is range reads counted over =
     let many : IsTooMany todo xs (unread old) = record {
       entries = n;
@@ -73,35 +62,6 @@ pub entries_after : (xs : List Primitive) (item : Primitive) (entries more : ℕ
 entries_after xs item entries more e f = omega (arith, total-append xs (item ∷ []))
 
 -- ---- the end
-
-is_settled : (t : List Shape) (xs : List Primitive) (u : List Shape) → passed t xs ≡ Some u → settled u ≡ u
-is_settled t [] u h =
-    let e : settled t ≡ u = cc in
-    ap settled (sym e) ∙ settled-again t ∙ e
-is_settled t (x ∷ xs) u h =
-    let a = some_after (after t x) xs u h in
-    is_settled a.0 xs u a.2
-
-none_next : (t : List Shape) → next_kind t ≡ None → settled t ≡ []
-none_next [] h = refl
-none_next (End ∷ t) h = none_next t h
-none_next (Plain k r ∷ t) h = absurd cc
-none_next (Array e r ∷ t) h = absurd cc
-
-pub nothing_to_come : (s : Shape) (bytes : List ℕ) (xs : List Primitive) (todo : List Shape) (rest : List ℕ) → ItemsReadSoFar s bytes xs todo rest → next_kind todo ≡ None → todo ≡ []
-nothing_to_come s bytes xs todo rest r h =
-    sym (is_settled (s ∷ []) xs todo r.come) ∙ none_next todo h
-
-none_is_next : (todo : List Shape) (item : Primitive) → todo ≡ [] → is_next todo item ≡ true → ⊥
-none_is_next todo item e h =
-    let h' : is_next [] item ≡ true = subst (λ (t : List Shape). is_next t item ≡ true) e h in
-    cc
-
-pub byte_too_many : (s : Shape) (bytes : List ℕ) (xs : List Primitive) (todo : List Shape) (rest : List ℕ) (place : ℕ) → ItemsReadSoFar s bytes xs todo rest → place ≡ length (spelling xs) → next_kind todo ≡ None → 0 < length rest → IsBadAt s bytes place
-byte_too_many s bytes xs todo rest place r p next some =
-    let none = nothing_to_come s bytes xs todo rest r next in
-    let stuck : IsStuck todo rest = λ item behind n i e. none_is_next todo item none n in
-    subst (IsBadAt s bytes) (sym p) (stuck_is_bad s bytes xs todo rest r stuck (λ _ e. omega (arith, ap length e)))
 
 no_bytes : (rest : List ℕ) → length rest ≤ 0 → rest ≡ []
 no_bytes [] h = refl
@@ -153,3 +113,23 @@ not_some (Some x) h = absurd cc
 
 pub to_come : (key version : ℤ) (dir : Dir) (xs : List Primitive) (todo : List Shape) → passed (message_shape key version dir ∷ []) xs ≡ Some todo → kind_to_come (record { key = key; version = version; dir = dir; items = xs }) ≡ next_kind todo
 to_come key version dir xs todo h = ap (option_and_then next_kind) h
+
+-- ---- what bytes are decoded to
+
+pub whole_decoded : (s : Shape) (bytes : List ℕ) (xs : List Primitive) → AreBytes bytes → AreItemsOf s bytes xs → (items : List Primitive) × (decoded s bytes ≡ AllItems items)
+whole_decoded s bytes xs small h = (xs, ((decoded_is_spelled s bytes small).0 xs).1 (h.value, h.items_are, h.spelled))
+
+pub fault_decoded : (s : Shape) (bytes : List ℕ) (fault : DecodeFault) → AreBytes bytes → IsFaultOf s bytes fault → HasFault (decoded s bytes) fault
+fault_decoded s bytes (NotSpelled at) small h = ((decoded_is_spelled s bytes small).1 at).1 h
+fault_decoded s bytes (TooManyEntries at) small h = ((decoded_is_spelled s bytes small).2 at).1 h
+fault_decoded s bytes NoMemory small h = tt
+
+-- ---- an item more, or the end
+
+pub one_found : {A : Type 0} (next : Option A) (end : Type 0) (more : A → Type 0) → is_some next ≡ true → MatchOption next end more → (x : A) × more x
+one_found None end more is h = absurd cc
+one_found (Some x) end more is h = (x, h)
+
+pub none_found : {A : Type 0} (next : Option A) (end : Type 0) (more : A → Type 0) → is_some next ≡ false → MatchOption next end more → end
+none_found None end more is h = h
+none_found (Some x) end more is h = absurd cc

@@ -8,9 +8,9 @@ use Rattle.tree_spelling.specs.Shape.{Shape, field_shape}
 use Rattle.tree_spelling.specs.Value.{Value, items_of}
 use Rattle.tree_spelling.specs.Agenda.{is_kind, next_kind, after, settled, passed, copies, items_behind}
 use Rattle.tree_spelling.specs.Paths.{further, field_place, place_at}
+use Rattle.tree_spelling.proofs.Endings.{kind_is_next}
 use Rattle.tree_spelling.proofs.Fronts.{next_comes}
 use Rattle.tree_spelling.proofs.Walking.{behind_one, behind_other, other_kind, behind_all, FirstField, first_field}
-use Rattle.tree_codec.proofs.Progress.{kind_is_next}
 
 pub item_there : (items : List Primitive) (n : ℕ) (x : Primitive) → n < length items → x ≡ get_or items n x → drop n items ≡ x ∷ drop (n + 1) items
 item_there items n x h e =

@@ -2,7 +2,7 @@
 use Rattle.std.specs.Prelude.{◌≡◌, ℕ, List, ◌++◌, IsTrue}
 use Rattle.kp_schema.specs.declared.kind.Kind.{Kind}
 use Rattle.wire_types.specs.declared.read_fault.ReadFault.{ReadFault}
-use Rattle.wire_types.specs.Reading.{Reading, unread, place_of}
+use Rattle.wire_types.specs.Reading.{place_of}
 use Rattle.tree_spelling.specs.declared.primitive.Primitive.{Primitive}
 use Rattle.tree_spelling.specs.Primitives.{spelled, IsInRange}
 use Rattle.tree_spelling.specs.Shape.{Shape}
@@ -25,12 +25,6 @@ as_not_spelled fault = NotSpelled (place_of fault)
 abbrev pub NoneIsSpelled : Kind → List ℕ → Type 0
 NoneIsSpelled kind rest =
     (item : Primitive) (behind : List ℕ) → IsTrue (is_kind kind item) → IsInRange item → rest ≡ spelled item ++ behind → ⊥
-
--- why no item was read
-abbrev pub IsBadFault : Kind → Reading → DecodeFault → Type 0
-IsBadFault kind reading (NotSpelled at) = (at ≡ reading.at) × NoneIsSpelled kind (unread reading)
-IsBadFault kind reading (TooManyEntries at) = ⊥
-IsBadFault kind reading NoMemory = Unit {0}
 
 abbrev pub IsNoMemory : DecodeFault → Type 0
 IsNoMemory fault = fault ≡ NoMemory

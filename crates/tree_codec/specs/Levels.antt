@@ -1,5 +1,5 @@
 -- The fields still to come, as the codec keeps them: the levels of the arrays that the next field lies in.
-use Rattle.std.specs.Prelude.{ℕ, ◌+◌, List, [], ◌∷◌, ◌++◌, Option, Some, None}
+use Rattle.std.specs.Prelude.{◌+◌, List, [], ◌∷◌, ◌++◌, Option, Some, None}
 use Rattle.kp_schema.specs.declared.kind.Kind.{Kind}
 use Rattle.tree_spelling.specs.Shape.{Shape, nest, field_shape}
 use Rattle.tree_spelling.specs.Agenda.{copies}

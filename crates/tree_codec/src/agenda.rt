@@ -1,4 +1,6 @@
 ghost use Rattle.std.specs.Prelude.{◌≡◌, ◌+◌, List, [], ◌∷◌, ◌++◌, Some, IfOk, OnOk, OnErr};
+ghost use Rattle.tree_spelling.specs.declared.primitive.Primitive.{Primitive};
+ghost use Rattle.tree_spelling.specs.Primitives.{entries_of};
 ghost use Rattle.tree_spelling.specs.Shape.{Shape, nest};
 ghost use Rattle.tree_spelling.specs.Agenda.{settled, copies, after, next_kind};
 ghost use Rattle.tree_codec.specs.Levels.{level_shapes, levels_below, todo_of};
@@ -6,7 +8,6 @@ ghost use Rattle.tree_codec.specs.Levels.{level_shapes, levels_below, todo_of};
 use crate::level::Level;
 use kp_schema::{Field, Kind};
 use std::alloc::Global;
-use tree_spelling::Primitive;
 use wire_types::NoMemory;
 
 /// Which fields are still to come, while the items of a body pass one by one.
@@ -46,14 +47,15 @@ impl Agenda {
         self.next
     }
 
-    /// Passes the next field, of which this is the value. Where it is an array its entries come next.
-    pub(crate) fn pass(&mut self, item: &Primitive) -> Result<(), NoMemory>
-        ensures ok { (todo : List Shape) → after (todo_of self.old) item.now ≡ Some todo
+    /// Passes the next field, whose value brings so many entries. These come next.
+    pub(crate) fn pass(&mut self, entries: u32) -> Result<(), NoMemory>
+        ensures ok { (item : Primitive) (todo : List Shape) → entries ≡ entries_of item
+            → after (todo_of self.old) item ≡ Some todo
             → OnOk result (todo_of self.new ≡ settled todo) }
         ensures err { OnErr result (todo_of self.new ≡ todo_of self.old) }
     {
-        if let Primitive::Count(Some(entries)) = item {
-            self.enter(*entries)?;
+        if entries > 0 {
+            self.enter(entries)?;
         }
         self.go_on();
         Ok(())

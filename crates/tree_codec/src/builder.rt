@@ -6,7 +6,7 @@ ghost use Rattle.tree_spelling.specs.Building.{kind_to_come, put_next, with_next
 
 use crate::agenda::Agenda;
 use crate::body::Body;
-use crate::items::{is_kind, item_of_kind, spelled_len, with_length};
+use crate::items::{entries_of, is_kind, item_of_kind, spelled_len, with_length};
 use crate::message::Message;
 use crate::message_fields::message_fields;
 use kp_schema::Dir;
@@ -109,7 +109,7 @@ impl Builder {
             return Err(EditFault::NoMemory);
         };
         self.items.reserve(1)?;
-        self.agenda.pass(&next)?;
+        self.agenda.pass(entries_of(&next))?;
         self.items.push(next)?;
         self.size = size;
         Ok(())

@@ -1,26 +1,21 @@
-ghost use Rattle.std.specs.Prelude.{◌≡◌, ℤ, List, length, IfOk, IfErr};
+ghost use Rattle.std.specs.Prelude.{◌≡◌, IfOk, IfErr};
 ghost use Rattle.tree_spelling.specs.Shape.{nest, message_shape};
-ghost use Rattle.tree_spelling.specs.Value.{Value, items_of};
+ghost use Rattle.tree_spelling.specs.Value.{Value};
 ghost use Rattle.tree_spelling.specs.Spelling.{IsSpelledBy};
 ghost use Rattle.tree_spelling.specs.Body.{IsReadFrom};
+ghost use Rattle.tree_spelling.specs.Decoded.{decoded};
 ghost use Rattle.tree_codec.specs.Faults.{IsFaultOf, IsNoMemory};
-ghost use Rattle.tree_codec.specs.Decoding.{AreItemsOf};
+ghost use Rattle.tree_codec.specs.Decoding.{AreItemsOf, Answers};
 
-use crate::agenda::Agenda;
 use crate::body::Body;
 use crate::decode_fault::DecodeFault;
-use crate::items::entries_of;
+use crate::item_reader::ItemReader;
 use crate::message::Message;
 use crate::message_fields::message_fields;
-use crate::read::read_item;
 use bytes::Bytes;
 use kp_schema::{Dir, Field};
 use std::alloc::Global;
 use tree_spelling::Primitive;
-use wire_types::Reader;
-
-// How many array entries a body may have in all.
-const MAX_ENTRIES: u32 = 8388608;
 
 /// The body that the bytes spell, all of them ("Protocol Primitive Types", and the message's fields in
 /// "The Messages").
@@ -62,23 +57,36 @@ fn read_items(
     ensures ok { IfOk result (λ items. AreItemsOf (nest fields.now 0) bytes.now items.items) }
     ensures err { IfErr result (IsFaultOf (nest fields.now 0) bytes.now) }
 {
-    let mut reader = Reader::new(bytes.as_slice());
-    let mut agenda = Agenda::new(alloc, fields, 0, 1);
+    let mut reader = ItemReader::new(alloc, fields, bytes.as_slice());
     let mut items = Vec::new(alloc);
-    let mut entries = 0;
-    while let Some(kind) = agenda.kind() {
-        let at = reader.at();
-        let item = read_item(kind, &mut reader, bytes)?;
-        let more = entries_of(&item);
-        if more > MAX_ENTRIES - entries {
-            return Err(DecodeFault::TooManyEntries { at });
-        }
-        entries += more;
-        agenda.pass(&item)?;
-        items.push(item)?;
-    }
-    if reader.left() > 0 {
-        return Err(DecodeFault::NotSpelled { at: reader.at() });
+    while let Some(found) = reader.next()? {
+        items.push(found.keep(bytes, reader.at())?)?;
     }
     Ok(items)
+}
+
+/// Whether the bytes spell a body of this message, all of them, and else why not, as [`decode`] tells it. No item is kept:
+/// memory is taken for no more than the levels of the arrays that an item lies in.
+pub fn check(
+    alloc: Global,
+    key: i16,
+    version: i16,
+    dir: Dir,
+    bytes: &[u8],
+) -> Result<(), DecodeFault>
+    // It is answered what the bytes are decoded to.
+    ensures { Answers (decoded (message_shape key version dir) bytes.now) result }
+{
+    let message = Message { key, version, dir };
+    let fields = message_fields(message);
+    check_fields(alloc, fields, bytes)
+}
+
+// The same for these fields.
+fn check_fields(alloc: Global, fields: &'static [Field], bytes: &[u8]) -> Result<(), DecodeFault>
+    ensures { Answers (decoded (nest fields.now 0) bytes.now) result }
+{
+    let mut reader = ItemReader::new(alloc, fields, bytes);
+    while reader.next()?.is_some() {}
+    Ok(())
 }

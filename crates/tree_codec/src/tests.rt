@@ -156,6 +156,8 @@ fn each_body_is_read_and_spelled_again(rt: HostRuntime) -> Result<(), Fail> {
         let spelled = encode(rt.alloc(), &body, bytes.len() as u64);
         let spelled = spelled.ok().ok_or(*name)?;
         assert_eq!(rt; (*name, spelled.as_slice()), (*name, *bytes));
+        let checked = check(rt.alloc(), *key, *version, *dir, *bytes);
+        assert_eq!(rt; (*name, checked), (*name, Ok(())));
     }
     Ok(())
 }
@@ -166,6 +168,8 @@ fn each_fault_has_its_place(rt: HostRuntime) -> Result<(), Fail> {
         let body = decode(rt.alloc(), *key, *version, *dir, Bytes::from_static(*bytes));
         let got = body.err().ok_or(*name)?;
         assert_eq!(rt; (*name, got), (*name, *fault));
+        let checked = check(rt.alloc(), *key, *version, *dir, *bytes);
+        assert_eq!(rt; (*name, checked), (*name, Err(*fault)));
     }
     Ok(())
 }

@@ -82,7 +82,7 @@ pub(crate) fn skip(
         if !is_kind(kind, item) {
             return Ok(end);
         }
-        agenda.pass(item)?;
+        agenda.pass(entries_of(item))?;
         end += 1;
     }
     Ok(end)

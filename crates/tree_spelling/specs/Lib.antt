@@ -9,3 +9,5 @@ pub mod Changes
 pub mod Building
 pub mod Laws
 pub mod Agenda
+pub mod Decoded
+pub mod Worked

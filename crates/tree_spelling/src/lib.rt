@@ -28,5 +28,5 @@ mod primitive;
 
 pub use edit_fault::EditFault;
 pub use item::Item;
-pub use laws::spelling_laws;
+pub use laws::{decoding_law, spelling_laws, worked_bodies};
 pub use primitive::Primitive;

@@ -1,8 +1,8 @@
-use Rattle.std.proofs.Common.{◌≡◌, ℕ, List, sym, subst, length, Some, refl, w16}
+use Rattle.std.proofs.Common.{◌≡◌, sym, subst, refl, w16}
 use Rattle.std.proofs.lemmas.Result.{err_from_is_err_and}
 use Rattle.std.proofs.lemmas.Int.{to_z-of_z}
 use Rattle.tree_spelling.specs.Shape.{Shape, nest, message_shape}
-use Rattle.tree_codec.specs.Faults.{IsFaultOf, IsNoMemory}
+use Rattle.tree_codec.specs.Faults.{IsFaultOf}
 use Rattle.tree_codec.specs.Decoding.{AreItemsOf}
 use Rattle.tree_codec.proofs.Progress.{only_memory, whole_body}
 use Rattle.tree_codec.proofs.decoder.decode.Goals as goal

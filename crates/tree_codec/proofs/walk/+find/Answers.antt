@@ -1,4 +1,4 @@
-use Rattle.std.proofs.Common.{◌≡◌, ◌≤◌, ◌<◌, ◌+◌, ◌∷◌, ℕ, List, Option, zero, arith, sym, subst, refl, None, Some, ap, ◌∙◌, drop}
+use Rattle.std.proofs.Common.{◌≡◌, ◌≤◌, ◌<◌, ◌+◌, ◌∷◌, ℕ, Option, arith, sym, subst, ap, ◌∙◌, drop}
 use Rattle.std.specs.Result.{IfOk}
 use Rattle.tree_spelling.specs.Primitives.{entries_of}
 use Rattle.tree_spelling.specs.Shape.{nest, field_shape}

@@ -19,7 +19,7 @@ loop-kind-preserved c =
     let i = c.loop-kind.invariant in
     let there = c.in-Some-get.ensures.lookup in
     let is : is_kind c.in-Some.kind c.in-Some-get.item.now ≡ true = sym c.is_kind.ensures ∙ c.if-not-is_kind.false in
-    let passes : (u : List Shape) → after (todo_of c.loop-kind.agenda) c.in-Some-get.item.now ≡ Some u → todo_of c.pass.new.self ≡ settled u = λ u h. c.in_ok-pass.ensures.ok u h in
+    let passes : (u : List Shape) → after (todo_of c.loop-kind.agenda) c.in-Some-get.item.now ≡ Some u → todo_of c.pass.new.self ≡ settled u = λ u h. c.in_ok-pass.ensures.ok c.in-Some-get.item.now u c.entries_of.ensures h in
     record {
       rest = walked_one (todo_of c.loop-kind.agenda) (todo_of c.pass.new.self) c.in-Some.kind c.args.items.now c.loop-kind.end c.in-Some-get.item.now c.in-Some.ensures is there.3.0 there.1 passes ∙ i.rest;
       within = omega (arith, there.3.0);

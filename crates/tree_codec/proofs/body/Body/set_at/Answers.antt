@@ -1,4 +1,4 @@
-use Rattle.std.proofs.Common.{◌≡◌, ◌<◌, ◌+◌, ◌-◌, ◌≤◌, length, get_or, sym, ap, ◌∙◌, arith, subst, Some, Ok}
+use Rattle.std.proofs.Common.{◌≡◌, ◌<◌, ◌+◌, ◌-◌, length, get_or, ap, ◌∙◌, arith}
 use Rattle.std.specs.Prelude.{slice_set}
 use Rattle.tree_spelling.specs.Primitives.{spelled}
 use Rattle.tree_spelling.specs.Body.{Contents}

@@ -1,4 +1,4 @@
-use Rattle.std.proofs.Common.{◌∙◌, arith}
+use Rattle.std.proofs.Common.{◌∙◌}
 use Rattle.tree_codec.proofs.Stacks.{next_entry}
 use Rattle.tree_codec.proofs.level.Level.pass.Goals as goal
 
