@@ -22,6 +22,7 @@ LEAST_SPEED = 0.2  # of whole frames, over the speed of xxd
 PIECE = 64 * 1024
 WHOLE = 1 << 30
 MOST_FRAME = 104_857_600  # bytes of a client's frame
+LEAST_ASSIGNMENT = 28  # bytes of a SyncGroup with one assignment that is empty
 
 
 class Exchange(NamedTuple):
@@ -35,14 +36,26 @@ def sized(frame):
     return len(frame).to_bytes(4, "big") + frame
 
 
-def exchange(number, filler=b""):
-    """A Heartbeat of member m of group g, with what goes to the broker and what comes back."""
+def exchange(number, head, body, answer):
+    """A request with this head and this body, with what goes to the broker and what comes back."""
     own, upstream = (number + 1).to_bytes(4, "big"), number.to_bytes(4, "big")
-    body = filler or bytes.fromhex("ffff 000167 00000001 00016d")
-    head, error = bytes.fromhex("000c 0000"), bytes.fromhex("0000")
+    null = bytes.fromhex("ffff")  # client_id
+    request = null + body
     return Exchange(
-        sized(head + own + body), sized(head + upstream + body), sized(upstream + error), sized(own + error)
+        sized(head + own + request), sized(head + upstream + request), sized(upstream + answer), sized(own + answer)
     )
+
+
+def heartbeat(number):
+    """A Heartbeat of member m of group g, and no error."""
+    return exchange(number, bytes.fromhex("000c 0000"), bytes.fromhex("000167 00000001 00016d"), bytes.fromhex("0000"))
+
+
+def assignment(number, size):
+    """A SyncGroup whose frame has so many bytes, nearly all of them one assignment, and an empty answer."""
+    length = size - LEAST_ASSIGNMENT
+    body = bytes.fromhex("0000 00000001 0000 00000001 0000") + length.to_bytes(4, "big") + bytes(length)
+    return exchange(number, bytes.fromhex("000e 0000"), body, bytes.fromhex("0000 00000000"))
 
 
 def pieces_of(data, size):
@@ -80,8 +93,8 @@ def in_flight(exchanges, piece, count=16):
 
 def held():
     """Two client frames of the greatest size find room, and a third of any size finds none until one is passed."""
-    first, second = (exchange(number, bytes(MOST_FRAME - 8)) for number in range(2))
-    third, fourth = (exchange(number) for number in range(2, 4))
+    first, second = (assignment(number, MOST_FRAME) for number in range(2))
+    third, fourth = (heartbeat(number) for number in range(2, 4))
     yield f"client {first.request.hex()}", "ok"
     yield f"client {second.request.hex()}", "ok"
     yield f"client {third.request.hex()}", "full"
@@ -114,6 +127,7 @@ class Script:
 
 class Timing(NamedTuple):
     seconds: float
+    processor: float  # seconds of it, in the program and in the system for it
     peak: int  # KiB
 
 
@@ -131,12 +145,15 @@ def run(words, source, output):
         child.returncode = os.waitstatus_to_exitcode(status)
     if child.returncode != 0:
         sys.exit(f"bench: {words[0]}: status {child.returncode}")
-    return Timing(seconds, int(note.read_text().split()[-1]) if timed else usage.ru_maxrss)
+    processor = usage.ru_utime + usage.ru_stime
+    return Timing(seconds, processor, int(note.read_text().split()[-1]) if timed else usage.ru_maxrss)
 
 
 def least(words, source, runs=RUNS):
     timings = [run(words, source, os.devnull) for _ in range(runs)]
-    return Timing(min(it.seconds for it in timings), max(it.peak for it in timings))
+    return Timing(
+        min(it.seconds for it in timings), min(it.processor for it in timings), max(it.peak for it in timings)
+    )
 
 
 def is_same(a, b):
@@ -172,11 +189,11 @@ def verdict(name, number, wanted, is_met):
 
 
 def beats(count):
-    return map(exchange, range(count))
+    return map(heartbeat, range(count))
 
 
 def one_of(size):
-    return [exchange(0, bytes(size - 8))]
+    return [assignment(0, size)]
 
 
 def main():
@@ -219,4 +236,5 @@ def main():
     return 0 if all(met) else 1
 
 
-sys.exit(main())
+if __name__ == "__main__":
+    sys.exit(main())

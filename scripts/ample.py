@@ -10,6 +10,7 @@ import subprocess
 import sys
 from binascii import hexlify
 
+from message_bodies import MOST_ENTRIES
 from replay_model import BROKER_SIZES, CLIENT_SIZES, HELD, IN_FLIGHT, LONGEST_LINE, LONGEST_VERDICT, replayed, sized
 from running import Cases, program, shown, status_text
 
@@ -21,6 +22,7 @@ CHUNK = 64 * KIB
 HEARTBEAT = bytes.fromhex("000c 0000")
 SYNC_GROUP = bytes.fromhex("000e 0000")
 LIST_GROUPS = bytes.fromhex("0010 0000")
+METADATA_1 = bytes.fromhex("0003 0001")
 API_VERSIONS_3 = bytes.fromhex("0012 0003")
 # The sizes of the least requests of the first two, with a null client id and empty texts, and of their least answers.
 LEAST_HEARTBEAT, HEARTBEAT_ANSWER = 18, 6
@@ -297,6 +299,29 @@ def client_id(length, there):
     yield from [b"send", b"emit"]
 
 
+def topics(count, there):
+    """A Metadata request that says so many topics, and has so many null names, with an answer that has nothing in it."""
+    names = signed(-1, 2) * there
+    yield piece("client", sized(METADATA_1 + own_id(0) + signed(-1, 2) + signed(count) + names))
+    yield b"send"
+    yield piece("broker", sized(bytes(16)))
+    yield from [b"emit"] * 2
+
+
+def short_request(size):
+    """A request whose body lacks its last byte, behind one that is whole."""
+    yield piece("client", request(0, size) + sized(request(1, size)[4:-1]))
+    yield from served(0, 1, LEAST_ANSWER)
+    yield b"emit"
+
+
+def short_answer(size):
+    yield piece("client", request(0, LEAST_SYNC_GROUP))
+    yield b"send"
+    yield piece("broker", sized(answer(0, size)[4:-1]))
+    yield b"emit"
+
+
 def drawn(seed, count):
     """Exchanges of any size up to 2 MiB, all orders of magnitude alike, in a thousand pieces or so at most."""
     draw = random.Random(seed)
@@ -366,6 +391,16 @@ def end_cases():
     yield "a mismatch at message number 66,000", late_answer(late, late - 1)
 
 
+def body_cases():
+    yield "as many topics as may be read", topics(MOST_ENTRIES, MOST_ENTRIES)
+    yield "1,000,003 topics, one of them missing", topics(1_000_003, 1_000_002)
+    yield "one topic more than may be read", topics(MOST_ENTRIES + 1, 1_000_003)
+    yield "more topics than any body has", topics(GREATEST, 0)
+    for size in (LEAST_SYNC_GROUP, 3_000_003, 32 * MIB + 1):
+        yield f"a request of {size:,} bytes without its last", short_request(size)
+        yield f"an answer of {size:,} bytes without its last", short_answer(size)
+
+
 # What is written, held beside the model.
 
 
@@ -420,7 +455,7 @@ def complaint(path, lines):
 def main():
     path = program(is_wrapped=False)
     cases = Cases("check_ample")
-    for make in (ordinary_cases, end_cases):
+    for make in (ordinary_cases, end_cases, body_cases):
         for name, lines in make():
             cases.note(name, complaint(path, lines))
     return cases.status()

@@ -1,7 +1,7 @@
 """What `kproxy replay` writes for a script: a plain model of docs/SCRIPTS.md, docs/CONNECTION.md and docs/ENDS.md.
 
-It shares no code with the program, and keeps all that it needs in the simplest form. The versions that are served are
-read off docs/MESSAGES.md. The one limit that it leaves out is that of a whole script.
+It shares no code with the program, and keeps all that it needs in the simplest form. The versions that are served, and
+their bodies, are read off docs/MESSAGES.md. The one limit that it leaves out is that of a whole script.
 
 Used by `scripts/check_ample` and `scripts/check_program`.
 """
@@ -9,10 +9,8 @@ Used by `scripts/check_ample` and `scripts/check_program`.
 import re
 from binascii import Error as NotHex, hexlify, unhexlify
 from collections import deque
-from functools import lru_cache
-from pathlib import Path
 
-MESSAGES = Path(__file__).resolve().parent.parent / "docs" / "MESSAGES.md"
+from message_bodies import BadBody, read_body, served_versions
 
 CLIENT_SIZES = range(8, 104_857_600 + 1)
 BROKER_SIZES = range(4, 134_217_728 + 1)
@@ -39,15 +37,6 @@ def number(data):
 
 def sized(frame):
     return len(frame).to_bytes(4, "big") + frame
-
-
-@lru_cache(maxsize=None)
-def served_versions():
-    """From each API key that is served to its versions."""
-    heads = re.findall(r"^## \w+ \(key (\d+), versions (\d+) to (\d+)\)$", MESSAGES.read_text(), re.M)
-    served = {int(key): range(int(least), int(greatest) + 1) for key, least, greatest in heads}
-    del served[PRODUCE]
-    return served
 
 
 class Stream:
@@ -97,6 +86,7 @@ class Stream:
 
 class Request:
     def __init__(self, frame):
+        self.start = frame[0:4]  # key and version
         self.own_id = frame[4:8]
         self.size = len(frame)
         self.body = None  # of its response, once it is done
@@ -106,7 +96,7 @@ class Connection:
     """The rules of one connection, over what requests mean today."""
 
     def __init__(self):
-        self.served = served_versions()
+        self.served = {key: versions for key, versions in served_versions().items() if key != PRODUCE}
         self.requests = []
         self.passed = 0
         self.held = 0
@@ -137,6 +127,12 @@ class Connection:
         length = number(frame[8:10]) if len(frame) >= 10 else None
         if length is None or length < -1 or length > len(frame) - 10:
             return f"bad-head {which}"
+        try:
+            read_body(frame[10 + max(length, 0) :], key, version, "request")
+        except BadBody as bad:
+            if bad.is_too_many:
+                return f"too-many-entries {which} at={bad.place}"
+            return f"bad-body {which} key={key} version={version} at={bad.place}"
         return None
 
     def take(self, frame):
@@ -173,8 +169,19 @@ class Connection:
             return b"ok"
         self.unanswered.popleft()
         if not self.cut or request < self.cut[0]:
-            self.requests[request].body = frame[4:]
+            self.give(request, frame[4:])
         return b"ok"
+
+    def give(self, request, body):
+        """A request below the cut gets the body of its response."""
+        start = self.requests[request].start
+        key, version = number(start[0:2]), number(start[2:4])
+        try:
+            read_body(body, key, version, "response")
+        except BadBody:
+            self.cut = request, f"broker-bad-body request={request} key={key} version={version}"
+        else:
+            self.requests[request].body = body
 
     def cut_behind(self, why):
         if not self.over and (not self.cut or len(self.requests) < self.cut[0]):

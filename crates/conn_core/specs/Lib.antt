@@ -1,3 +1,4 @@
-pub mod Heads
+pub mod Bodies
 pub mod Kinds
 pub mod Waiting
+pub mod Spelled

@@ -3,7 +3,7 @@ ghost use Rattle.conn_rules.specs.Meaning.{Meaning};
 ghost use Rattle.conn_rules.specs.State.{State, opening};
 ghost use Rattle.conn_rules.specs.Connections.{Follows, FrameComesBack, AnswerComesBack, VerdictComesBack};
 
-use crate::heads::Heads;
+use crate::bodies::Bodies;
 use bytes::Bytes;
 use conn_rules::{AnswerFault, CompleteFault, Connection, Emit, Fault, Look, TakeFault, Ticket};
 use kp_edge::{Blob, Steps};
@@ -13,29 +13,29 @@ use std::alloc::Global;
 /// A connection between a client and its broker.
 #[derive(Drop)]
 pub struct Core {
-    serving: Serving<Heads>,
+    serving: Serving<Bodies>,
 }
 
 impl Core {
-    ghost use Rattle.conn_core.specs.Heads.{heads};
+    ghost use Rattle.conn_core.specs.Bodies.{bodies};
 
     /// A connection to which nothing came yet, for 1 to 64 requests in flight.
     pub fn new(alloc: Global, in_flight: u32) -> Core
         requires some { 1 ≤ in_flight }
         requires few { in_flight ≤ 64 }
-        ensures meaning { ⟦<Core as Connection>⟧.meaning result ≡ heads in_flight }
+        ensures meaning { ⟦<Core as Connection>⟧.meaning result ≡ bodies in_flight }
         ensures opens { ⟦<Core as Connection>⟧.stands result opening }
     {
         Core {
-            serving: Serving::over(alloc, Heads { alloc }, in_flight),
+            serving: Serving::over(alloc, Bodies { alloc }, in_flight),
         }
     }
 }
 
 impl Connection for Core {
-    ghost meaning = { λ core. ⟦<Serving<Heads> as Connection>⟧.meaning core.serving };
+    ghost meaning = { λ core. ⟦<Serving<Bodies> as Connection>⟧.meaning core.serving };
 
-    ghost stands = { λ core. ⟦<Serving<Heads> as Connection>⟧.stands core.serving };
+    ghost stands = { λ core. ⟦<Serving<Bodies> as Connection>⟧.stands core.serving };
 
     fn take<L>(&mut self, frame: Bytes, steps: &mut Steps<L>) -> Result<(), TakeFault> {
         self.serving.take(frame, steps)

@@ -11,16 +11,17 @@ const IN_FLIGHT: u32 = 64;
 // What is counted here: nothing.
 struct Counted;
 
-// A Heartbeat's head without a client id.
+// A request for ListGroups, version 0, without a client id. Its body is empty.
 fn request(alloc: Global, id: u32) -> Result<Bytes, AllocError> {
     let id = id.to_be_bytes();
-    let head = [0, 12, 0, 0, id[0], id[1], id[2], id[3], 0xff, 0xff];
+    let head = [0, 16, 0, 0, id[0], id[1], id[2], id[3], 0xff, 0xff];
     Bytes::copy_from_slice(alloc, &head)
 }
 
+// No error, and no groups.
 fn answer(alloc: Global, number: u32) -> Result<Bytes, AllocError> {
     let id = number.to_be_bytes();
-    Bytes::copy_from_slice(alloc, &[id[0], id[1], id[2], id[3], 0, 0])
+    Bytes::copy_from_slice(alloc, &[id[0], id[1], id[2], id[3], 0, 0, 0, 0, 0, 0])
 }
 
 // The next request finds room, and goes out.
@@ -40,7 +41,7 @@ fn is_answered(alloc: Global, core: &mut Core, number: u32, own: u32) -> Result<
         return Ok(false);
     }
     let id = own.to_be_bytes();
-    let wanted = [0, 0, 0, 6, id[0], id[1], id[2], id[3], 0, 0];
+    let wanted = [0, 0, 0, 10, id[0], id[1], id[2], id[3], 0, 0, 0, 0, 0, 0];
     match core.emit() {
         Emit::Bytes(response) => Ok(response.as_slice() == wanted.as_slice()),
         _ => Ok(false),

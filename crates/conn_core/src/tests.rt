@@ -1,5 +1,6 @@
 // What no clause says: that memory suffices, and the bytes of whole exchanges. Most frames are those of the protocol
 // guide's Heartbeat, version 0.
+use self::by_bodies::{BAD_ANSWERS, BAD_BODIES, READ};
 use self::by_ends::{ENDS, FAILED, VERDICTS};
 use self::by_requests::{ANSWERS, IN_ORDER, NO_REQUESTS, TOLD};
 use self::by_room::{AT_ONE, AT_SIXTY_FOUR, LOOKS};
@@ -9,6 +10,7 @@ use kp_edge::{Blob, End, Steps};
 use std::alloc::{AllocError, Global};
 use std::test::Fail;
 
+mod by_bodies;
 mod by_ends;
 mod by_requests;
 mod by_room;
@@ -18,7 +20,7 @@ enum Line {
     Client(&'static [u8]),
     // the same frame so many times
     Clients(u32, &'static [u8]),
-    // a Heartbeat whose client id has this length, and behind it so many bytes
+    // a request for ListGroups, whose body is empty: its client id has this length, and behind it stand so many bytes
     ClientId(i16, u32),
     Broker(&'static [u8]),
     Verdict(&'static [u8]),
@@ -162,7 +164,7 @@ fn takes_many(alloc: Global, core: &mut Core, times: u32, frame: &[u8]) -> Resul
 
 fn with_client_id(alloc: Global, length: i16, bytes: u32) -> Result<Bytes, AllocError> {
     let mut frame = Vec::new(alloc);
-    frame.extend_from_slice(b"\0\x0c\0\0\0\0\0\x07")?;
+    frame.extend_from_slice(b"\0\x10\0\0\0\0\0\x07")?;
     frame.extend_from_slice(&length.to_be_bytes())?;
     for _ in 0..bytes {
         frame.push(b'c')?;
@@ -249,6 +251,9 @@ fn scripts_are_answered(rt: HostRuntime) -> Result<(), Fail> {
         TOLD,
         NO_REQUESTS,
         ANSWERS,
+        READ,
+        BAD_BODIES,
+        BAD_ANSWERS,
         ENDS,
         FAILED,
         VERDICTS,

@@ -1,7 +1,7 @@
 // The commands.
 ghost use Rattle.std.specs.Prelude.{◌≡◌, ◌≤◌, ◌↔◌, ℕ, List, [], ◌++◌, Some, map, string_bytes, IsTrue};
 ghost use Rattle.kp_edge.specs.Counts.{BothCounted, Counted};
-ghost use Rattle.conn_core.specs.Heads.{heads};
+ghost use Rattle.conn_core.specs.Bodies.{bodies};
 ghost use Rattle.proxy_main.specs.Words.{IsReplay, usage, most_in_flight};
 ghost use Rattle.proxy_main.specs.Output.{Appends, AppendsFront};
 ghost use Rattle.proxy_main.specs.Scripts.{ReadSoFar, piece_limit};
@@ -10,7 +10,7 @@ ghost use Rattle.proxy_main.specs.Replayed.{Replays, RefusesWords, IsStatusOfRep
 use crate::output::write_all;
 use crate::script::replay;
 use crate::status::Status;
-use conn_core::{Core, heads_law};
+use conn_core::{Core, bodies_law};
 use kp_edge::{Failed, Files, Sink, Source, Steps};
 use std::alloc::Global;
 
@@ -35,7 +35,7 @@ pub fn run_command<I: Source, O: Sink, F: Files, L>(
     // The status and what is written have their cause in the script, where the input tells it. The output took
     // that text, where it tells what it takes.
     ensures replay { IsReplay (map string_bytes words.now) → (script : List ℕ) → I.coming input.old ≡ Some script
-        → (written : List ℕ) × Appends (O.taken out.old) written (O.taken out.new) × Replays (heads most_in_flight) script (I.coming input.new) written result }
+        → (written : List ℕ) × Appends (O.taken out.old) written (O.taken out.new) × Replays (bodies most_in_flight) script (I.coming input.new) written result }
     ensures statuses { IsReplay (map string_bytes words.now) → IsStatusOfReplay result }
 
     // At most the limit of a script and one piece of it are read. At status 0 the whole script was.
@@ -56,7 +56,7 @@ pub fn run_command<I: Source, O: Sink, F: Files, L>(
     ensures steps { _steps.old ≤ _steps.new }
 {
     if is_replay(words) {
-        heads_law();
+        bodies_law();
         replay(alloc, Core::new(alloc, IN_FLIGHT), input, out)
     } else {
         refuse_words(out)

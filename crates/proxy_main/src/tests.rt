@@ -1,3 +1,4 @@
+use self::by_bodies::BODIES;
 use self::by_ends::{ANSWERS, BROKER_ENDS, FAULTS, HOLDS, ORDER, SHORTEST};
 use self::by_room::ROOM;
 use self::by_streams::{BROKER_SIZES, CLIENT_ENDS, CLIENT_SIZES, HEADS, PIECES, VERSIONS};
@@ -6,6 +7,7 @@ use kp_edge::{Blob, MemFiles, MemSink, MemSource, Steps};
 use std::alloc::Global;
 use std::test::*;
 
+mod by_bodies;
 mod by_ends;
 mod by_room;
 mod by_streams;
@@ -314,6 +316,13 @@ fn faults_outside(rt: HostRuntime) -> Result<(), Fail> {
 #[test]
 fn answers_out_of_turn(rt: HostRuntime) -> Result<(), Fail> {
     let other = first_other(rt.alloc(), ANSWERS)?;
+    assert_eq!(rt; other.as_str(), "");
+    Ok(())
+}
+
+#[test]
+fn bodies_are_read(rt: HostRuntime) -> Result<(), Fail> {
+    let other = first_other(rt.alloc(), BODIES)?;
     assert_eq!(rt; other.as_str(), "");
     Ok(())
 }

@@ -49,13 +49,16 @@ pub(crate) const IN_ORDER: &[(&str, &[(Line, Want)])] = &[
     (
         "an empty body behind a bare head",
         &[
-            (Line::Client(b"\0\x0c\0\x03\0\0\0\x07\xff\xff"), Told::Fine),
+            (Line::Client(b"\0\x10\0\0\0\0\0\x07\xff\xff"), Told::Fine),
             (
                 Line::Send,
-                Told::Bytes(b"\0\0\0\x0a\0\x0c\0\x03\0\0\0\0\xff\xff"),
+                Told::Bytes(b"\0\0\0\x0a\0\x10\0\0\0\0\0\0\xff\xff"),
             ),
-            (Line::Broker(b"\0\0\0\0"), Told::Fine),
-            (Line::Emit, Told::Bytes(b"\0\0\0\x04\0\0\0\x07")),
+            (Line::Broker(b"\0\0\0\0\0\x0f\xff\xff\xff\xff"), Told::Fine),
+            (
+                Line::Emit,
+                Told::Bytes(b"\0\0\0\x0a\0\0\0\x07\0\x0f\xff\xff\xff\xff"),
+            ),
         ],
     ),
     (
@@ -264,7 +267,6 @@ pub(crate) const NO_REQUESTS: &[(&str, &[(Line, Want)])] = &[
             (Line::ClientId(-1, 0), Told::Fine),
             (Line::ClientId(0, 0), Told::Fine),
             (Line::ClientId(3, 3), Told::Fine),
-            (Line::ClientId(3, 9), Told::Fine),
             (Line::ClientId(32767, 32767), Told::Fine),
             (Line::Emit, Told::Later),
             (
@@ -272,8 +274,8 @@ pub(crate) const NO_REQUESTS: &[(&str, &[(Line, Want)])] = &[
                 Told::Looks(Look {
                     over: false,
                     dead: false,
-                    in_flight: 5,
-                    held: 32829,
+                    in_flight: 4,
+                    held: 32810,
                 }),
             ),
         ],

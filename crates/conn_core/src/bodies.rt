@@ -6,43 +6,49 @@ ghost use Rattle.framing.specs.Frames.{sized};
 ghost use Rattle.conn_core.specs.Waiting.{Sends, TellsVersions};
 
 use crate::kinds::{FrameKind, kind_of};
+use crate::unreadable::{answer_cause, request_cause};
 use api_versions::refusal;
 use bytes::Bytes;
 use kp_edge::{NoMemory, Steps};
 use serving::{Begun, Cause, Given, Message, Progress, Service, WholeFrame};
 use std::alloc::Global;
 
-/// What requests mean today: their heads are read, and their bodies pass unread.
+/// What requests mean today: their heads and bodies are read, and those of their answers, and pass as they came.
 #[derive(Drop)]
-pub struct Heads {
+pub struct Bodies {
     pub(crate) alloc: Global,
 }
 
 /// A request that waits for the broker's answer.
 #[derive(Drop)]
-pub struct HeadRun {
+pub struct BodyRun {
     /// The client's correlation id, as it came.
     pub(crate) correlation_id: [u8; 4],
 }
 
-impl Service for Heads {
-    ghost use Rattle.conn_core.specs.Heads.{head_meaning};
+impl Service for Bodies {
+    ghost use Rattle.conn_core.specs.Bodies.{body_meaning};
     ghost use Rattle.conn_core.specs.Waiting.{IsWaiting};
 
-    type Run = HeadRun;
+    type Run = BodyRun;
 
-    ghost meaning = { λ _. head_meaning };
+    ghost meaning = { λ _. body_meaning };
 
     ghost stands = { λ _. IsWaiting };
 
     ghost left = { λ _ _. 0 };
 
-    fn begin<L>(&self, frame: &Bytes, _steps: &mut Steps<L>) -> Result<Begun<HeadRun>, NoMemory> {
+    fn begin<L>(&self, frame: &Bytes, _steps: &mut Steps<L>) -> Result<Begun<BodyRun>, NoMemory> {
         match kind_of(frame.as_slice()) {
-            FrameKind::Sent => Ok(Begun::Runs {
-                silent: false,
-                progress: send(frame)?,
-            }),
+            FrameKind::Headed { key, version, body } => {
+                match request_cause(self.alloc, key, version, body)? {
+                    Some(cause) => Ok(Begun::Refused(cause)),
+                    None => Ok(Begun::Runs {
+                        silent: false,
+                        progress: send(frame)?,
+                    }),
+                }
+            }
             FrameKind::ToldVersions { correlation_id } => Ok(Begun::Runs {
                 silent: false,
                 progress: tell_versions(self.alloc, frame.as_slice(), correlation_id)?,
@@ -56,10 +62,10 @@ impl Service for Heads {
 
     fn go_on<L>(
         &self,
-        run: HeadRun,
+        run: BodyRun,
         given: Given,
         _steps: &mut Steps<L>,
-    ) -> Result<Progress<HeadRun>, NoMemory> {
+    ) -> Result<Progress<BodyRun>, NoMemory> {
         let response = match given {
             Given::Body(body) => respond(self.alloc, run.correlation_id, body.as_slice())?,
             Given::NoResponse => respond(self.alloc, run.correlation_id, &[])?,
@@ -68,13 +74,15 @@ impl Service for Heads {
         Ok(Progress::Done(Some(response)))
     }
 
-    fn unreadable(&self, _before: [u8; 4], _body: &[u8]) -> Result<Option<Cause>, NoMemory> {
-        Ok(None)
+    fn unreadable(&self, before: [u8; 4], body: &[u8]) -> Result<Option<Cause>, NoMemory> {
+        let key = i16::from_be_bytes([before[0], before[1]]);
+        let version = i16::from_be_bytes([before[2], before[3]]);
+        answer_cause(self.alloc, key, version, body)
     }
 }
 
 // The request itself goes to the broker.
-fn send(frame: &Bytes) -> Result<Progress<HeadRun>, NoMemory>
+fn send(frame: &Bytes) -> Result<Progress<BodyRun>, NoMemory>
     requires { 8 ≤ length frame.now }
     ensures { IfOk result (λ progress. Sends frame.now progress) }
 {
@@ -85,7 +93,7 @@ fn send(frame: &Bytes) -> Result<Progress<HeadRun>, NoMemory>
         main: true,
         responds: true,
     };
-    let run = HeadRun {
+    let run = BodyRun {
         correlation_id: [bytes[4], bytes[5], bytes[6], bytes[7]],
     };
     Ok(Progress::Sends(message, run))
@@ -96,7 +104,7 @@ fn tell_versions(
     alloc: Global,
     frame: &[u8],
     correlation_id: i32,
-) -> Result<Progress<HeadRun>, NoMemory>
+) -> Result<Progress<BodyRun>, NoMemory>
     requires { 8 ≤ length frame.now }
     ensures { IfOk result (λ progress. TellsVersions frame.now progress) }
 {

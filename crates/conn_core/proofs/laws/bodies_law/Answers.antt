@@ -1,11 +1,11 @@
-use Rattle.std.proofs.Common.{◌≡◌, Bool, true, false, if◌then◌else◌, List, [], ◌∷◌, ◌++◌, ℕ, sym}
+use Rattle.std.proofs.Common.{◌≡◌, Bool, true, false, if◌then◌else◌, List, [], ◌∷◌, ◌++◌, ℕ}
 use Rattle.framing.specs.Frames.{sized}
 use Rattle.framing.specs.CorrelationIds.{request_id}
 use Rattle.api_versions.specs.Refusal.{refusal_body}
 use Rattle.conn_rules.specs.Meaning.{Done, CarriesId}
 use Rattle.conn_rules.specs.State.{Outside}
-use Rattle.conn_core.specs.Heads.{is_told_versions, versions_told, body_of, answered_with}
-use Rattle.conn_core.proofs.laws.heads_law.Goals as goal
+use Rattle.conn_core.specs.Bodies.{is_told_versions, versions_told, body_of, answered_with}
+use Rattle.conn_core.proofs.laws.bodies_law.Goals as goal
 
 answered_stays : (frame : List ℕ) (given more : List Outside) (response : List ℕ) → answered_with frame given ≡ Done response → answered_with frame (given ++ more) ≡ Done response
 answered_stays frame [] more response h = cc
