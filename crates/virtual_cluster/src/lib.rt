@@ -23,6 +23,7 @@ mod plans;
 mod sequence;
 #[cfg(test)]
 mod tests;
+mod texts;
 
 pub use address::Address;
 pub use fault::{LimitKey, NameFault, PlanFault};
