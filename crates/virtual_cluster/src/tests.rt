@@ -9,6 +9,7 @@ use std::process::Abort;
 mod ample;
 mod faults;
 mod names;
+mod texts;
 
 fn blob(rt: &impl Abort, alloc: Global, text: &str) -> Blob {
     Blob::copy(alloc, text.as_bytes()).expect(rt, "memory")
