@@ -1,0 +1,11 @@
+pub mod Format
+pub mod Reading
+pub mod Fitting
+pub mod Lengths
+pub mod Writing
+pub mod Views
+pub mod Drafts
+pub mod Drafting
+pub mod Laws
+pub mod Tables
+pub mod Entries
