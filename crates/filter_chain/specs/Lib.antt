@@ -1,0 +1,7 @@
+pub mod Answers
+pub mod Chain
+pub mod Outcomes
+pub mod Laws
+pub mod Suspensions
+pub mod RunStates
+pub mod Probes
