@@ -3,3 +3,4 @@ pub mod Progress
 pub mod Steps
 pub mod Edits
 pub mod Parts
+pub mod Retaining

@@ -2,3 +2,4 @@ pub mod Faults
 pub mod Found
 pub mod Decoding
 pub mod Levels
+pub mod Copying

@@ -17,7 +17,7 @@ use tree_spelling::{EditFault, Item, Primitive};
 /// A body that is made item by item: its fields in order, and each array's entries after its count.
 #[derive(Drop)]
 pub struct Builder {
-    alloc: Global,
+    pub(crate) alloc: Global,
     message: Message,
     items: Vec<Primitive>,
     size: u64,

@@ -3,7 +3,7 @@
 //! ```text
 //!   bytes of a body ── decode ──▶ Body ── encode ──▶ the same bytes
 //!         │                        │ ▲
-//!         ▼                        │ └── set, Builder
+//!         ▼                        │ └── set, retain, Builder
 //!   DecodeFault at the bad place   └── get, items
 //!         ▲
 //!   bytes of a body ── check ──▶ nothing, where they spell one
@@ -32,6 +32,7 @@ mod level;
 mod message;
 mod message_fields;
 mod read;
+mod retain;
 mod walk;
 
 pub use body::Body;

@@ -240,3 +240,94 @@ fn a_body_is_built_item_by_item(rt: HostRuntime) -> Result<(), Fail> {
     assert!(rt; early.err() == Some(EditFault::NoSuch));
     Ok(())
 }
+
+// Flags for the entries of an array, and the body's bytes then.
+const RETAINED: [(
+    &'static str,
+    usize,
+    &'static [u32],
+    &'static [bool],
+    &'static [u8],
+); 8] = [
+    (
+        "the first",
+        5,
+        &[1],
+        &[true, false, false],
+        &[0, 0, 0, 0, 0, 1, 0, 0, 0, 0, 0, 9],
+    ),
+    (
+        "the last two",
+        5,
+        &[1],
+        &[false, true, true],
+        &[
+            0, 0, 0, 0, 0, 2, 0, 0x3c, 0, 0, 0, 0, 0, 1, 0, 0x0c, 0, 0x0d,
+        ],
+    ),
+    ("none", 5, &[1], &[false, false, false], &[0, 0, 0, 0, 0, 0]),
+    (
+        "one without a flag goes",
+        5,
+        &[1],
+        &[false, true],
+        &[0, 0, 0, 0, 0, 1, 0, 0x3c, 0, 0, 0, 0],
+    ),
+    (
+        "a flag too many",
+        5,
+        &[1],
+        &[true, false, false, true],
+        &[0, 0, 0, 0, 0, 1, 0, 0, 0, 0, 0, 9],
+    ),
+    ("null", 1, &[0], &[], &[0xff, 0xff, 0xff, 0xff]),
+    (
+        "an array in an entry",
+        3,
+        &[3, 0, 1],
+        &[false],
+        &[
+            0xff, 0xff, 0, 0, 0, 0, 0, 0x64, 0, 0, 0, 1, 0, 1, b't', 0, 0, 0, 0,
+        ],
+    ),
+    (
+        "the array around it",
+        3,
+        &[3],
+        &[false],
+        &[0xff, 0xff, 0, 0, 0, 0, 0, 0x64, 0, 0, 0, 0],
+    ),
+];
+
+#[test]
+fn entries_are_kept_by_their_flags(rt: HostRuntime) -> Result<(), Fail> {
+    for (name, number, path, keep, wanted) in &RETAINED {
+        let (_, key, version, dir, bytes) = BODIES[*number];
+        let body = decode(rt.alloc(), key, version, dir, Bytes::from_static(bytes));
+        let mut body = body.ok().ok_or(*name)?;
+        body.retain(*path, *keep).ok().ok_or(*name)?;
+        let spelled = encode(rt.alloc(), &body, 64).ok().ok_or(*name)?;
+        assert_eq!(rt; spelled.as_slice(), *wanted);
+        assert_eq!(rt; body.size(), wanted.len() as u64);
+    }
+    Ok(())
+}
+
+#[test]
+fn only_an_array_loses_entries(rt: HostRuntime) -> Result<(), Fail> {
+    let cases: [(&'static [u32], EditFault); 6] = [
+        (&[], EditFault::NoSuch),
+        (&[0], EditFault::WrongKind),
+        (&[2], EditFault::NoSuch),
+        (&[1, 0], EditFault::NoSuch),
+        (&[1, 0, 0], EditFault::WrongKind),
+        (&[1, 3, 0], EditFault::NoSuch),
+    ];
+    let mut body = versions(rt.alloc())?;
+    for (path, wanted) in &cases {
+        assert_eq!(rt; body.retain(*path, &[true]), Err(*wanted));
+        let spelled = encode(rt.alloc(), &body, 24).ok().ok_or("memory")?;
+        assert_eq!(rt; spelled.as_slice(), BODIES[5].4);
+    }
+    Ok(())
+}

@@ -4,6 +4,7 @@ pub mod Fronts
 pub mod Faults
 pub mod OneValue
 pub mod Walking
+pub mod Retaining
 pub mod Worked
 pub mod FirstItems
 pub mod Endings

@@ -6,6 +6,7 @@ pub mod Body
 pub mod Items
 pub mod Paths
 pub mod Changes
+pub mod Retaining
 pub mod Building
 pub mod Laws
 pub mod Agenda
