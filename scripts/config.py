@@ -22,10 +22,10 @@ PAGE = TOP / "docs" / "CONFIG.md"
 TYPES = {
     "version_in": "integer",
     "tables_in": "array of tables",
-    "text_in": "string",
+    "text_value": "string",
     "some_text_in": "string",
     "natural_in": "integer",
-    "int32_in": "integer",
+    "int32_value": "integer",
     "address_in": "string",
     "addresses_in": "array of strings",
     "texts_in": "array of strings",

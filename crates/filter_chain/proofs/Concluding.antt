@@ -18,7 +18,7 @@ use Rattle.filter_chain.specs.declared.state.ShutCause.TheVariants as cause
 use Rattle.filter_chain.specs.declared.suspended.Suspended.{Suspended}
 use Rattle.filter_core.specs.Responses.{response_given}
 use Rattle.filter_chain.specs.Chain.{Fate, Back, Awaits, Closes, Course, behind_turns, asked_outside, way_from}
-use Rattle.filter_chain.specs.Outcomes.{Outcome, Needs, Finished, Shuts, outcome_after, course, run, turns}
+use Rattle.filter_chain.specs.Outcomes.{Outcome, Needs, Completed, Shuts, outcome_after, course, run, turns}
 use Rattle.filter_chain.specs.Suspensions.{resumed, stopped, as_awaited, awaited_by, AreSuspended, StandFor, Leads, IsConclusion}
 use Rattle.filter_chain.specs.RunStates.{RunsFor, IsState}
 use Rattle.filter_chain.proofs.Courses.{behind_none, resumed_asks}
@@ -75,7 +75,7 @@ module _ {F P : Type 0} (turn : F → Turn) (stands : F → P → Contents → L
     concluded (stop.Asks question) asked (state.Shut (cause.Filter filter why)) e s h = absurd h
     concluded (stop.Asks question) asked (state.Shut cause.AskBudget) e s h = outcome_asks question s ∙ may_not_ask (length given) question (subst (λ k. ask_limit ≤ k) e h)
     concluded (stop.Done input) asked (state.Needs r ask) e s h = absurd h
-    concluded (stop.Done input) asked (state.Done response) e s h = ap (λ (c : Course). outcome_after (length given) c.fate) (sym now ∙ s.goes []) ∙ ap Finished (sym h)
+    concluded (stop.Done input) asked (state.Done response) e s h = ap (λ (c : Course). outcome_after (length given) c.fate) (sym now ∙ s.goes []) ∙ ap Completed (sym h)
     concluded (stop.Done input) asked (state.Shut cause) e s h = absurd h
     concluded (stop.Shut k reason) asked (state.Needs r ask) e s h = absurd h
     concluded (stop.Shut k reason) asked (state.Done response) e s h = absurd h

@@ -13,7 +13,7 @@ use Rattle.filter_chain.specs.declared.state.ShutCause.TheVariants as cause
 use Rattle.filter_core.specs.Responses.{response_given}
 use Rattle.filter_chain.specs.Answers.{as_answer, as_verdict}
 use Rattle.filter_chain.specs.Chain.{Fate, Back, Awaits, Closes, Endless, Course, Way, behind_turns, asked_outside, given_back, gives, decided, turns_on, most_turns, way_from}
-use Rattle.filter_chain.specs.Outcomes.{Outcome, Needs, Finished, Shuts, NeverEnds, outcome_after, course, run}
+use Rattle.filter_chain.specs.Outcomes.{Outcome, Needs, Completed, Shuts, NeverEnds, outcome_after, course, run}
 use Rattle.filter_chain.specs.Laws.{IsSettled, UsesFront, DoneStays, EndStays, NothingBehindBudget, AnswersAreUsedInOrder}
 
 -- `UsesFront` of a way that comes to this course
@@ -88,7 +88,7 @@ settled_stays chain request given more s =
     ap (λ xs. (course chain request xs).fate) (ap (λ xs. xs ++ more) u.front ∙ append_assoc u.used (course chain request given).left more)
     ∙ ap (λ (c : Course). c.fate) (u.whatever s ((course chain request given).left ++ more))
 
-asks_is_not_done : (b : Bool) (ask : Ask) (r : Option Contents) → (if b then Needs ask else Shuts cause.AskBudget) ≡ Finished r → ⊥
+asks_is_not_done : (b : Bool) (ask : Ask) (r : Option Contents) → (if b then Needs ask else Shuts cause.AskBudget) ≡ Completed r → ⊥
 asks_is_not_done true ask r e = cc
 asks_is_not_done false ask r e = cc
 
@@ -96,7 +96,7 @@ asks_is_no_end : (b : Bool) (ask : Ask) (k : ℕ) (reason : Reason) → (if b th
 asks_is_no_end true ask k reason e = cc
 asks_is_no_end false ask k reason e = cc
 
-done_fate : (fate : Fate) (n m : ℕ) (r : Option Contents) → outcome_after n fate ≡ Finished r → IsSettled fate × (outcome_after m fate ≡ Finished r)
+done_fate : (fate : Fate) (n m : ℕ) (r : Option Contents) → outcome_after n fate ≡ Completed r → IsSettled fate × (outcome_after m fate ≡ Completed r)
 done_fate (Back input) n m r h = (tt, h)
 done_fate (Awaits ask) n m r h = absurd (asks_is_not_done (nat_lt n ask_limit) ask r h)
 done_fate (Closes filter reason) n m r h = (tt, h)

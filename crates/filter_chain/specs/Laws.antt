@@ -12,13 +12,13 @@ use Rattle.filter_chain.specs.declared.state.ShutCause.{ShutCause}
 use Rattle.filter_chain.specs.declared.state.ShutCause.TheVariants as cause
 use Rattle.filter_chain.specs.Answers.{as_verdict}
 use Rattle.filter_chain.specs.Chain.{Fate, Back, Awaits, Closes, Endless, Course, Way, way_from}
-use Rattle.filter_chain.specs.Outcomes.{Outcome, Needs, Finished, Shuts, run, turns}
+use Rattle.filter_chain.specs.Outcomes.{Outcome, Needs, Completed, Shuts, run, turns}
 
 -- a response stays what it is, whatever more comes, and so does a filter's end
 abbrev pub DoneStays : Type 0
 DoneStays =
     (chain : List Turn) (request : Contents) (given more : List Outside) (response : Option Contents)
-    → run chain request given ≡ Finished response → run chain request (given ++ more) ≡ Finished response
+    → run chain request given ≡ Completed response → run chain request (given ++ more) ≡ Completed response
 
 abbrev pub EndStays : Type 0
 EndStays =

@@ -14,7 +14,7 @@ pub data Outcome : Type 0 where
   -- it waits for this
   Needs : (ask : Ask) → Outcome
   -- it has its response, or is done without one
-  Finished : (response : Option Contents) → Outcome
+  Completed : (response : Option Contents) → Outcome
   -- the connection ends
   Shuts : (cause : ShutCause) → Outcome
   -- a filter goes on after six inputs, which its laws forbid
@@ -22,7 +22,7 @@ pub data Outcome : Type 0 where
 
 -- A request that was given so much may ask once more only where that was less than 64.
 abbrev pub outcome_after : ℕ → Fate → Outcome
-outcome_after given (Back input) = Finished (response_given input)
+outcome_after given (Back input) = Completed (response_given input)
 outcome_after given (Awaits ask) = if nat_lt given ask_limit then Needs ask else Shuts cause.AskBudget
 outcome_after given (Closes filter reason) = Shuts (cause.Filter filter reason)
 outcome_after given (Endless filter) = NeverEnds filter

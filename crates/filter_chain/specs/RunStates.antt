@@ -10,7 +10,7 @@ use Rattle.filter_chain.specs.declared.state.State.{State}
 use Rattle.filter_chain.specs.declared.state.State.TheVariants as state
 use Rattle.filter_chain.specs.declared.passing.Stop.TheVariants as stop
 use Rattle.filter_chain.specs.declared.passing.Next.TheVariants as next
-use Rattle.filter_chain.specs.Outcomes.{Needs, Finished, Shuts, course, run, turns}
+use Rattle.filter_chain.specs.Outcomes.{Needs, Completed, Shuts, course, run, turns}
 use Rattle.filter_chain.specs.Suspensions.{StandFor, awaited_by}
 
 module _ {F P : Type 0} (turn : F → Turn) (stands : F → P → Contents → List Input → Type 0) where
@@ -24,5 +24,5 @@ module _ {F P : Type 0} (turn : F → Turn) (stands : F → P → Contents → L
   -- the state is that of the request
   abbrev pub IsState : List F → Contents → List Outside → State P → Type 0
   IsState chain request given (state.Needs r ask) = (run (map turn chain) request given ≡ Needs ask) × RunsFor chain request given r
-  IsState chain request given (state.Done response) = run (map turn chain) request given ≡ Finished response
+  IsState chain request given (state.Done response) = run (map turn chain) request given ≡ Completed response
   IsState chain request given (state.Shut cause) = run (map turn chain) request given ≡ Shuts cause

@@ -10,7 +10,7 @@ use Rattle.virtual_cluster.specs.Pairs.{plans_fault}
 use Rattle.virtual_cluster.specs.declared.address.Address.{Address}
 use Rattle.virtual_cluster.specs.declared.plan.ClusterPlan.{ClusterPlan}
 use Rattle.virtual_cluster.specs.declared.filter_plan.FilterPlan.{FilterPlan}
-use Rattle.proxy_config.specs.Values.{Given, text_in, natural_in, int32_in, version_in, address_in, some_text_in, texts_in, addresses_in, filters_in, tables_in, required, optional}
+use Rattle.proxy_config.specs.Values.{Given, text_value, natural_in, int32_value, version_in, address_in, some_text_in, texts_in, addresses_in, filters_in, tables_in, required, optional}
 use Rattle.proxy_config.specs.declared.fault.ConfigFault.{ConfigFault}
 use Rattle.proxy_config.specs.declared.fault.ConfigFault.TheVariants.{NotToml, UnknownKey, Plan, NoMemory}
 use Rattle.proxy_config.specs.declared.fault.Place.{Place}
@@ -44,19 +44,19 @@ value_or d given = unwrap_or (result_ok given) d
 -- What the table of cluster n gives for each of its keys.
 module _ (n : ℕ) (t : Members) where
   abbrev pub given_name : Given (List ℕ)
-  given_name = required text_in (key_place (Some n) (codes "name")) t
+  given_name = required text_value (key_place (Some n) (codes "name")) t
 
   abbrev pub given_listen : Given (List ℕ)
-  given_listen = required text_in (key_place (Some n) (codes "listen")) t
+  given_listen = required text_value (key_place (Some n) (codes "listen")) t
 
   abbrev pub given_advertise : Given (List ℕ)
-  given_advertise = required text_in (key_place (Some n) (codes "advertise")) t
+  given_advertise = required text_value (key_place (Some n) (codes "advertise")) t
 
   abbrev pub given_port : Given ℕ
   given_port = required (natural_in 65535) (key_place (Some n) (codes "port")) t
 
   abbrev pub given_first_node : Given ℤ
-  given_first_node = required int32_in (key_place (Some n) (codes "first_node")) t
+  given_first_node = required int32_value (key_place (Some n) (codes "first_node")) t
 
   abbrev pub given_bootstrap : Given Address
   given_bootstrap = required address_in (key_place (Some n) (codes "bootstrap")) t

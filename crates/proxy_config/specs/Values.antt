@@ -15,9 +15,9 @@ abbrev pub Given : Type 0 → Type 0
 Given A = Result A ConfigFault
 
 -- a string
-abbrev pub text_in : Place → Data → Given (List ℕ)
-text_in p (string s) = Ok s
-text_in p _ = Err (WrongType p)
+abbrev pub text_value : Place → Data → Given (List ℕ)
+text_value p (string s) = Ok s
+text_value p _ = Err (WrongType p)
 
 -- a string that may be missing
 abbrev pub some_text_in : Place → Data → Given (Option (List ℕ))
@@ -35,9 +35,9 @@ abbrev pub is_int32 : ℤ → Bool
 is_int32 (pos n) = nat_lt n (2 ^ 31)
 is_int32 (negsuc n) = nat_lt n (2 ^ 31)
 
-abbrev pub int32_in : Place → Data → Given ℤ
-int32_in p (integer z) = if is_int32 z then Ok z else Err (BadValue p)
-int32_in p _ = Err (WrongType p)
+abbrev pub int32_value : Place → Data → Given ℤ
+int32_value p (integer z) = if is_int32 z then Ok z else Err (BadValue p)
+int32_value p _ = Err (WrongType p)
 
 -- the version of this format, which is 1
 abbrev pub version_in : Place → Data → Given ℕ

@@ -2,7 +2,7 @@
 ghost use Rattle.std.specs.Prelude.{◌≡◌, ◌≤◌, IfOk, [], pos, None, Some, option_map, length};
 ghost use Rattle.toml.specs.Data.{get_member};
 ghost use Rattle.toml.specs.View.{view, items_view, table_view};
-ghost use Rattle.proxy_config.specs.Values.{text_in, natural_in, int32_in, version_in, address_in, some_text_in, texts_in, addresses_in, filters_in, tables_in, required, optional};
+ghost use Rattle.proxy_config.specs.Values.{text_value, natural_in, int32_value, version_in, address_in, some_text_in, texts_in, addresses_in, filters_in, tables_in, required, optional};
 ghost use Rattle.proxy_config.specs.Meant.{key_place, IsMeant, keys_of, cluster_keys, unknown_key, unless};
 ghost use Rattle.proxy_config.specs.Steps.{plan_keys, option_keys, IsMeantAs};
 ghost use Rattle.std.specs.List.{list_any};
@@ -28,7 +28,7 @@ pub(crate) fn text(
     table: &Table,
     key: &str,
 ) -> Result<Blob, ConfigFault>
-    ensures { IsMeant result (required text_in (key_place cluster key.now) (table_view table.now)) }
+    ensures { IsMeant result (required text_value (key_place cluster key.now) (table_view table.now)) }
 {
     match find(table, key) {
         Some(value) => values::text(alloc, cluster, key, value),
@@ -73,7 +73,7 @@ pub(crate) fn int32(
     table: &Table,
     key: &str,
 ) -> Result<i32, ConfigFault>
-    ensures { IsMeant result (required int32_in (key_place cluster key.now) (table_view table.now)) }
+    ensures { IsMeant result (required int32_value (key_place cluster key.now) (table_view table.now)) }
 {
     match find(table, key) {
         Some(value) => values::int32(alloc, cluster, key, value),

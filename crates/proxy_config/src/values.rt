@@ -1,7 +1,7 @@
 // The value of a key, or what is amiss with it.
 ghost use Rattle.std.specs.Prelude.{◌≡◌, ◌≤◌, IfOk};
 ghost use Rattle.toml.specs.View.{view};
-ghost use Rattle.proxy_config.specs.Values.{text_in, natural_in, int32_in, version_in, address_in};
+ghost use Rattle.proxy_config.specs.Values.{text_value, natural_in, int32_value, version_in, address_in};
 ghost use Rattle.proxy_config.specs.Meant.{key_place, IsMeant};
 
 use crate::address::address;
@@ -17,7 +17,7 @@ pub(crate) fn text(
     key: &str,
     value: &Value,
 ) -> Result<Blob, ConfigFault>
-    ensures { IsMeant result (text_in (key_place cluster key.now) (view value.now)) }
+    ensures { IsMeant result (text_value (key_place cluster key.now) (view value.now)) }
 {
     match value.as_str() {
         Some(text) => Ok(Blob::copy(alloc, text.as_bytes())?),
@@ -54,7 +54,7 @@ pub(crate) fn int32(
     key: &str,
     value: &Value,
 ) -> Result<i32, ConfigFault>
-    ensures { IsMeant result (int32_in (key_place cluster key.now) (view value.now)) }
+    ensures { IsMeant result (int32_value (key_place cluster key.now) (view value.now)) }
 {
     match value.as_integer() {
         Some(number) => {
