@@ -1,6 +1,6 @@
 """The table of Kafka's messages, read from the source, and what is held beside it.
 
-    messages.py check      docs/MESSAGES.md and the definitions in specs/, by every row
+    messages.py check      docs/MESSAGES.md, the definitions in specs/ and the structs, by every row
     messages.py compare    the Python package kafka-python, by every version that both have
 
 Use `scripts/check_messages` and `scripts/compare_kafka_python`, which call this.
@@ -10,6 +10,8 @@ import re
 import sys
 from pathlib import Path
 from typing import NamedTuple
+
+from structs import struct_differences
 
 TOP = Path(__file__).resolve().parent.parent
 CRATE = TOP / "crates" / "kp_schema"
@@ -181,11 +183,12 @@ def check():
     apis = source()
     found = list(differences(apis, document(), "docs/MESSAGES.md"))
     found += differences(apis, [spec_api(api) for api in apis], "specs/")
+    found += struct_differences(apis, DOCUMENT.read_text())
     for line in found:
         print(f"check_messages: {line}")
     if not found:
         count = sum(len(rows) for api in apis for rows in api.tables.values())
-        print(f"check_messages: {len(apis)} messages with {count} rows: source, specs and document agree")
+        print(f"check_messages: {len(apis)} messages with {count} rows: source, specs, structs and document agree")
     return 1 if found else 0
 
 

@@ -1,12 +1,12 @@
 -- A response narrowed item by item is the one narrowed entry by entry.
-use Rattle.std.proofs.Common.{◌≡◌, ℕ, ℤ, ◌+◌, ◌*◌, suc, List, [], ◌∷◌, ◌++◌, length, take, drop, Option, Some, None, refl, sym, ap, ◌∙◌, append_assoc, arith}
+use Rattle.std.proofs.Common.{◌≡◌, ℕ, ℤ, ◌+◌, ◌*◌, List, [], ◌∷◌, ◌++◌, length, take, drop, Option, Some, None, refl, sym, ap, ◌∙◌, append_assoc, arith}
 use Rattle.std.specs.Option.{option_map}
 use Rattle.std.specs.List.{flat_map, filter_map}
 use Rattle.std.proofs.lemmas.List.{take_at, drop_at}
 use Rattle.tree_spelling.specs.declared.primitive.Primitive.{Primitive}
 use Rattle.tree_spelling.specs.declared.primitive.Primitive.TheVariants.{Int16, Count}
 use Rattle.tree_spelling.specs.Shape.{Shape}
-use Rattle.tree_spelling.specs.Value.{Value, array_items, items_of}
+use Rattle.tree_spelling.specs.Value.{Value, items_of}
 use Rattle.tree_spelling.specs.Body.{Contents}
 use Rattle.api_versions.specs.Narrowing.{entry_shape, versions_shape, narrow_entry, narrowed, known_in, supported_range, range_items, range_count, known_items, known_count, narrowed_items, with_items}
 

@@ -1,12 +1,12 @@
 -- What of a broker's answer to ApiVersions passes: the versions that both know ("ApiVersions Response").
-use Rattle.std.specs.Prelude.{ℕ, ◌+◌, ◌*◌, ℤ, Bool, int_le, if◌then◌else◌, List, [], ◌∷◌, ◌++◌, take, drop, Option, Some, None}
-use Rattle.std.specs.Option.{option_map, option_and_then}
+use Rattle.std.specs.Prelude.{ℕ, ◌+◌, ◌*◌, ℤ, int_le, if◌then◌else◌, List, [], ◌∷◌, ◌++◌, take, drop, Option, Some, None}
+use Rattle.std.specs.Option.{option_map}
 use Rattle.std.specs.List.{filter_map}
 use Rattle.std.specs.Ordering.{int_eq}
 use Rattle.kp_schema.specs.declared.kind.Kind.TheVariants as kinds
 use Rattle.kp_schema.specs.Messages.{supported_versions}
 use Rattle.tree_spelling.specs.declared.primitive.Primitive.{Primitive}
-use Rattle.tree_spelling.specs.declared.primitive.Primitive.TheVariants.{Int8, Int16, Int32, Int64, Boolean, Text, Binary, Count}
+use Rattle.tree_spelling.specs.declared.primitive.Primitive.TheVariants.{Int16, Count}
 use Rattle.tree_spelling.specs.Shape.{Shape, End, Plain, Array}
 use Rattle.tree_spelling.specs.Value.{Value}
 use Rattle.tree_spelling.specs.Body.{Contents}
@@ -75,6 +75,10 @@ abbrev pub narrowed_items : List Primitive → List Primitive
 narrowed_items (error ∷ (Count (Some entries) ∷ items)) =
     error ∷ (Count (Some (known_count (take (entries * 3) items))) ∷ (known_items (take (entries * 3) items) ++ drop (entries * 3) items))
 narrowed_items items = items
+
+-- a response so narrowed
+abbrev pub narrowed_body : Contents → Contents
+narrowed_body body = record body { items = narrowed_items body.items }
 
 -- a body with these items more at its end
 abbrev pub with_items : Contents → List Primitive → Contents

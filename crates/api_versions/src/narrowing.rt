@@ -6,7 +6,7 @@ ghost use Rattle.kp_schema.specs.declared.kind.Kind.TheVariants as Kind;
 ghost use Rattle.tree_spelling.specs.declared.primitive.Primitive.TheVariants.{Int16};
 ghost use Rattle.tree_spelling.specs.Value.{Value, items_of};
 ghost use Rattle.tree_spelling.specs.Body.{IsOf, body_shape};
-ghost use Rattle.api_versions.specs.Narrowing.{versions_shape, narrowed, known_in, supported_range, from_to, greater, lesser, known_count, known_items, narrowed_items, with_items};
+ghost use Rattle.api_versions.specs.Narrowing.{versions_shape, narrowed, known_in, supported_range, from_to, greater, lesser, known_count, known_items, narrowed_items, narrowed_body, with_items};
 
 use kp_schema::supported;
 use std::alloc::Global;
@@ -21,12 +21,15 @@ pub fn narrow(alloc: Global, body: Body) -> Result<Body, NoMemory>
     ensures narrowed { (rest : Shape) (value : Value (versions_shape rest))
         → body.items ≡ items_of (versions_shape rest) value
         → IfOk result (λ new. new.items ≡ items_of (versions_shape rest) (narrowed rest value)) }
+
+    // The same as a function of the body.
+    ensures body { IfOk result (λ new. new ≡ narrowed_body body) }
 {
     narrow_body(alloc, &body)
 }
 
 fn narrow_body(alloc: Global, body: &Body) -> Result<Body, NoMemory>
-    ensures { IfOk result (λ new. new ≡ record body.now { items = narrowed_items body.now.items }) }
+    ensures { IfOk result (λ new. new ≡ narrowed_body body.now) }
 {
     let mut out = Builder::new(alloc, body.key(), body.version(), body.dir());
     narrow_items(&mut out, body.items())?;

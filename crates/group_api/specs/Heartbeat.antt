@@ -9,7 +9,7 @@ heartbeat_request_format = format (
     text_field ∷  -- group_id
     int32_field ∷  -- generation_id
     text_field ∷  -- member_id
-    text_in 3 3 ∷  -- group_instance_id
+    text_in 3 3 3 ∷  -- group_instance_id
     [])
 
 abbrev pub heartbeat_request_fields : HeartbeatRequest → Fields heartbeat_request_format
@@ -17,7 +17,7 @@ heartbeat_request_fields view = (view.group_id, (view.generation_id, (view.membe
 
 abbrev pub heartbeat_response_format : Format
 heartbeat_response_format = format (
-    int32_in 1 3 ∷  -- throttle_time_ms
+    int32_in 0 1 3 ∷  -- throttle_time_ms
     int16_field ∷  -- error_code
     [])
 

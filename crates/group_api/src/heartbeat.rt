@@ -54,7 +54,8 @@ impl View for HeartbeatRequest {
         writer.text(&self.group_id)?;
         writer.int32(&self.generation_id)?;
         writer.text(&self.member_id)?;
-        writer.text_in(3, &self.version, 3, 3, &self.group_instance_id)
+        writer.text_in(3, &self.version, 3, 3, &self.group_instance_id)?;
+        Ok(())
     }
 }
 
@@ -101,6 +102,7 @@ impl View for HeartbeatResponse {
 
     fn write(&self, writer: &mut Writer) -> Result<(), NoMemory> {
         writer.int32_in(0, &self.version, 1, 3, &self.throttle_time_ms)?;
-        writer.int16(&self.error_code)
+        writer.int16(&self.error_code)?;
+        Ok(())
     }
 }

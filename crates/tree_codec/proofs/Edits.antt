@@ -78,7 +78,7 @@ after_same (Plain k r ∷ t) x y e other =
 after_same (Array f r ∷ t) x y e other =
     array_none f r t x (λ h. other (e ∙ h)) ∙ sym (array_none f r t y other)
 
-passed_same : (t : List Shape) (front back : List Primitive) (x y : Primitive) → kind_of y ≡ kind_of x → kind_of y ≢ kinds.Array → passed t (front ++ (x ∷ back)) ≡ passed t (front ++ (y ∷ back))
+pub passed_same : (t : List Shape) (front back : List Primitive) (x y : Primitive) → kind_of y ≡ kind_of x → kind_of y ≢ kinds.Array → passed t (front ++ (x ∷ back)) ≡ passed t (front ++ (y ∷ back))
 passed_same t [] back x y e other = ap (option_and_then (λ u. passed u back)) (after_same t x y e other)
 passed_same t (z ∷ front) back x y e other =
     elim (after t z) as (λ o. option_and_then (λ u. passed u (front ++ (x ∷ back))) o ≡ option_and_then (λ u. passed u (front ++ (y ∷ back))) o) [

@@ -116,8 +116,11 @@ to_come key version dir xs todo h = ap (option_and_then next_kind) h
 
 -- ---- what bytes are decoded to
 
+pub items_decoded : (s : Shape) (bytes : List ℕ) (xs : List Primitive) → AreBytes bytes → AreItemsOf s bytes xs → decoded s bytes ≡ AllItems xs
+items_decoded s bytes xs small h = ((decoded_is_spelled s bytes small).0 xs).1 (h.value, h.items_are, h.spelled)
+
 pub whole_decoded : (s : Shape) (bytes : List ℕ) (xs : List Primitive) → AreBytes bytes → AreItemsOf s bytes xs → (items : List Primitive) × (decoded s bytes ≡ AllItems items)
-whole_decoded s bytes xs small h = (xs, ((decoded_is_spelled s bytes small).0 xs).1 (h.value, h.items_are, h.spelled))
+whole_decoded s bytes xs small h = (xs, items_decoded s bytes xs small h)
 
 pub fault_decoded : (s : Shape) (bytes : List ℕ) (fault : DecodeFault) → AreBytes bytes → IsFaultOf s bytes fault → HasFault (decoded s bytes) fault
 fault_decoded s bytes (NotSpelled at) small h = ((decoded_is_spelled s bytes small).1 at).1 h

@@ -1,11 +1,11 @@
-ghost use Rattle.std.specs.Prelude.{◌≡◌, IfOk, IfErr};
+ghost use Rattle.std.specs.Prelude.{◌≡◌, IfOk, IfErr, MatchResult};
 ghost use Rattle.tree_spelling.specs.Shape.{nest, message_shape};
 ghost use Rattle.tree_spelling.specs.Value.{Value};
 ghost use Rattle.tree_spelling.specs.Spelling.{IsSpelledBy};
 ghost use Rattle.tree_spelling.specs.Body.{IsReadFrom};
-ghost use Rattle.tree_spelling.specs.Decoded.{decoded};
+ghost use Rattle.tree_spelling.specs.Decoded.{decoded, AllItems};
 ghost use Rattle.tree_codec.specs.Faults.{IsFaultOf, IsNoMemory};
-ghost use Rattle.tree_codec.specs.Decoding.{AreItemsOf, Answers};
+ghost use Rattle.tree_codec.specs.Decoding.{AreItemsOf, HasFault, Answers};
 
 use crate::body::Body;
 use crate::decode_fault::DecodeFault;
@@ -37,9 +37,13 @@ pub fn decode(
     ensures spelled_is_read { (value : Value (message_shape key version dir))
         → IsSpelledBy (message_shape key version dir) value bytes → IfErr result IsNoMemory }
     ensures err { IfErr result (IsFaultOf (message_shape key version dir) bytes) }
+
+    // As a function of the bytes: the body has the items that they are decoded to, or they have that fault.
+    ensures decoded { MatchResult result (λ body. decoded (message_shape key version dir) bytes ≡ AllItems body.items)
+        (HasFault (decoded (message_shape key version dir) bytes)) }
 {
     let message = Message { key, version, dir };
-    let items = read_items(alloc, message_fields(message), &bytes)?;
+    let items = read_items(alloc, message_fields(message), bytes.as_slice(), &bytes)?;
     Ok(Body {
         alloc,
         message,
@@ -48,19 +52,23 @@ pub fn decode(
     })
 }
 
-// The items of the value that the bytes spell.
+// The items of the value that the bytes spell. Their texts are parts of the frame.
 fn read_items(
     alloc: Global,
     fields: &'static [Field],
-    bytes: &Bytes,
+    bytes: &[u8],
+    frame: &Bytes,
 ) -> Result<Vec<Primitive>, DecodeFault>
+    requires { frame.now ≡ bytes.now }
     ensures ok { IfOk result (λ items. AreItemsOf (nest fields.now 0) bytes.now items.items) }
     ensures err { IfErr result (IsFaultOf (nest fields.now 0) bytes.now) }
+    ensures decoded { MatchResult result (λ items. decoded (nest fields.now 0) bytes.now ≡ AllItems items.items)
+        (HasFault (decoded (nest fields.now 0) bytes.now)) }
 {
-    let mut reader = ItemReader::new(alloc, fields, bytes.as_slice());
+    let mut reader = ItemReader::new(alloc, fields, bytes);
     let mut items = Vec::new(alloc);
     while let Some(found) = reader.next()? {
-        items.push(found.keep(bytes, reader.at())?)?;
+        items.push(found.keep(frame, reader.at())?)?;
     }
     Ok(items)
 }

@@ -20,19 +20,34 @@ pub fn encode(alloc: Global, body: &Body, most: u64) -> Result<Bytes, EncodeFaul
     if size > most {
         return Err(EncodeFault::GrownPast { size });
     }
-    body.is_tree();
-    Ok(spell(alloc, body.items(), size)?)
+    Ok(spell(alloc, body, size)?)
 }
 
-fn spell(alloc: Global, items: &[Primitive], size: u64) -> Result<Bytes, NoMemory>
-    requires { AreInRange items.now }
-    ensures { IfOk result (λ bytes. bytes ≡ spelling items.now) }
+fn spell(alloc: Global, body: &Body, size: u64) -> Result<Bytes, NoMemory>
+    ensures { IfOk result (λ bytes. bytes ≡ spelling body.now.items) }
 {
     let mut out = Writer::with_capacity(alloc, size as usize)?;
-    for item in items {
-        write_item(&mut out, item)?;
-    }
+    append(&mut out, body)?;
     out.finish()
+}
+
+/// Writes the bytes that spell the body behind those that are there. Where memory is wanting, some of them may
+/// stand there.
+pub fn append(out: &mut Writer, body: &Body) -> Result<(), NoMemory>
+    ensures { OnOk result (out.new ≡ out.old ++ spelling body.now.items) }
+{
+    body.is_tree();
+    write_items(out, body.items())
+}
+
+fn write_items(out: &mut Writer, items: &[Primitive]) -> Result<(), NoMemory>
+    requires { AreInRange items.now }
+    ensures { OnOk result (out.new ≡ out.old ++ spelling items.now) }
+{
+    for item in items {
+        write_item(out, item)?;
+    }
+    Ok(())
 }
 
 fn write_item(out: &mut Writer, item: &Primitive) -> Result<(), NoMemory>

@@ -40,8 +40,12 @@ pub use builder::Builder;
 pub use decode_fault::DecodeFault;
 pub use decoder::{check, decode};
 pub use encode_fault::EncodeFault;
-pub use encoder::encode;
+pub use encoder::{append, encode};
 pub use tree_spelling::{EditFault, Item, Primitive};
 
+#[cfg(test)]
+mod kafka_python;
+#[cfg(test)]
+mod spelled_tests;
 #[cfg(test)]
 mod tests;

@@ -3,6 +3,7 @@ use bytes::Bytes;
 use kp_schema::Dir;
 use std::alloc::Global;
 use std::test::*;
+use wire_types::Writer;
 
 // Bodies by key, version and direction, as the guide spells them.
 const BODIES: [(&'static str, i16, i16, Dir, &'static [u8]); 8] = [
@@ -159,6 +160,22 @@ fn each_body_is_read_and_spelled_again(rt: HostRuntime) -> Result<(), Fail> {
         let checked = check(rt.alloc(), *key, *version, *dir, *bytes);
         assert_eq!(rt; (*name, checked), (*name, Ok(())));
     }
+    Ok(())
+}
+
+#[test]
+fn bodies_are_written_one_behind_the_other(rt: HostRuntime) -> Result<(), Fail> {
+    let mut out = Writer::new(rt.alloc());
+    let mut wanted = Vec::new(rt.alloc());
+    out.put_i8(7).ok().ok_or("memory")?;
+    wanted.push(7).ok().ok_or("memory")?;
+    for (name, key, version, dir, bytes) in &BODIES {
+        let body = decode(rt.alloc(), *key, *version, *dir, Bytes::from_static(bytes));
+        let body = body.ok().ok_or(*name)?;
+        append(&mut out, &body).ok().ok_or(*name)?;
+        wanted.extend_from_slice(*bytes).ok().ok_or(*name)?;
+    }
+    assert_eq!(rt; out.as_slice(), wanted.as_slice());
     Ok(())
 }
 

@@ -10,7 +10,7 @@ use Rattle.tree_spelling.specs.declared.primitive.Primitive.{Primitive}
 use Rattle.tree_spelling.specs.Body.{Contents}
 use Rattle.views.specs.declared.view_fault.ViewFault.{ViewFault}
 use Rattle.views.specs.declared.view_fault.ViewFault.TheVariants.{WrongApi, Misplaced, TooLong, NoMemory}
-use Rattle.views.specs.Format.{Format, Finished, Single, SingleIn, Several, SeveralIn, Fields, field_count}
+use Rattle.views.specs.Format.{Format, Finished, Single, SingleIn, Several, SeveralIn, Fields}
 use Rattle.views.specs.Reading.{items_before}
 use Rattle.views.specs.Fitting.{is_same, is_wanted, if_unfit, in_each_entry, in_given, unfit_fields, FitVersion, AllEntriesFit, FitsIfGiven}
 use Rattle.views.specs.Lengths.{first_excess}
@@ -100,23 +100,23 @@ unfolding FitsIfGiven
 given_fits f P h None e = tt
 given_fits f P h (Some x) e = h x e
 
-fields_fit : (format : Format) (version : ℤ) (n : ℕ) (fields : Fields format) → unfit_fields format version n fields ≡ [] → FitVersion format version fields
-fields_fit Finished version n fields e = tt
-fields_fit (Single kind more) version n fields e = fields_fit more version (n + 1) fields.1 e
-fields_fit (SingleIn first last kind more) version n fields e =
-    let us = if_unfit n (is_same (is_some fields.0) (is_wanted (pos first) (pos last) version)) in
-    let vs = unfit_fields more version (n + 1) fields.1 in
-    (same_bools (is_some fields.0) (is_wanted (pos first) (pos last) version) n (no_front us vs e), fields_fit more version (n + 1) fields.1 (no_back us vs e))
-fields_fit (Several entry more) version n fields e =
-    let us = in_each_entry (unfit_fields entry version (n + 1)) fields.0 in
-    let vs = unfit_fields more version (n + 1 + field_count entry) fields.1 in
-    (array_fits (unfit_fields entry version (n + 1)) (FitVersion entry version) (fields_fit entry version (n + 1)) fields.0 (no_front us vs e), fields_fit more version (n + 1 + field_count entry) fields.1 (no_back us vs e))
-fields_fit (SeveralIn first last entry more) version n fields e =
-    let ws = if_unfit n (is_same (is_some fields.0) (is_wanted (pos first) (pos last) version)) in
-    let us = in_given (in_each_entry (unfit_fields entry version (n + 1))) fields.0 in
-    let vs = unfit_fields more version (n + 1 + field_count entry) fields.1 in
+fields_fit : (format : Format) (version : ℤ) (fields : Fields format) → unfit_fields format version fields ≡ [] → FitVersion format version fields
+fields_fit Finished version fields e = tt
+fields_fit (Single kind more) version fields e = fields_fit more version fields.1 e
+fields_fit (SingleIn number first last kind more) version fields e =
+    let us = if_unfit number (is_same (is_some fields.0) (is_wanted (pos first) (pos last) version)) in
+    let vs = unfit_fields more version fields.1 in
+    (same_bools (is_some fields.0) (is_wanted (pos first) (pos last) version) number (no_front us vs e), fields_fit more version fields.1 (no_back us vs e))
+fields_fit (Several entry more) version fields e =
+    let us = in_each_entry (unfit_fields entry version) fields.0 in
+    let vs = unfit_fields more version fields.1 in
+    (array_fits (unfit_fields entry version) (FitVersion entry version) (fields_fit entry version) fields.0 (no_front us vs e), fields_fit more version fields.1 (no_back us vs e))
+fields_fit (SeveralIn number first last entry more) version fields e =
+    let ws = if_unfit number (is_same (is_some fields.0) (is_wanted (pos first) (pos last) version)) in
+    let us = in_given (in_each_entry (unfit_fields entry version)) fields.0 in
+    let vs = unfit_fields more version fields.1 in
     let later = no_back ws (us ++ vs) e in
-    (same_bools (is_some fields.0) (is_wanted (pos first) (pos last) version) n (no_front ws (us ++ vs) e), (given_fits (in_each_entry (unfit_fields entry version (n + 1))) (AllEntriesFit (FitVersion entry version)) (array_fits (unfit_fields entry version (n + 1)) (FitVersion entry version) (fields_fit entry version (n + 1))) fields.0 (no_front us vs later), fields_fit more version (n + 1 + field_count entry) fields.1 (no_back us vs later)))
+    (same_bools (is_some fields.0) (is_wanted (pos first) (pos last) version) number (no_front ws (us ++ vs) e), (given_fits (in_each_entry (unfit_fields entry version)) (AllEntriesFit (FitVersion entry version)) (array_fits (unfit_fields entry version) (FitVersion entry version) (fields_fit entry version)) fields.0 (no_front us vs later), fields_fit more version fields.1 (no_back us vs later)))
 
 -- what a draft says at its end
 
@@ -158,41 +158,41 @@ unfit_is body (u ∷ us) items n h =
     rw (← e) (least_is u us)
 
 -- the draft of a view
-at_end : (key version : ℤ) (dir : Dir) (format : Format) (fields : Fields format) (end : Draft) → end ≡ put_fields format version 0 fields (Begun (blank key version dir)) → drafted (blank key version dir) (unfit_fields format version 0 fields) (items_before format fields []) ≡ end
-at_end key version dir format fields end h = sym (h ∙ fields_add format version 0 fields (blank key version dir) [] [])
+at_end : (key version : ℤ) (dir : Dir) (format : Format) (fields : Fields format) (end : Draft) → end ≡ put_fields format version fields (Begun (blank key version dir)) → drafted (blank key version dir) (unfit_fields format version fields) (items_before format fields []) ≡ end
+at_end key version dir format fields end h = sym (h ∙ fields_add format version fields (blank key version dir) [] [])
 
-pub body_is : (key version : ℤ) (dir : Dir) (format : Format) (fields : Fields format) (end : Draft) (made : Contents) → end ≡ put_fields format version 0 fields (Begun (blank key version dir)) → end ≡ Begun made → made ≡ view_body key dir version format fields
+pub body_is : (key version : ℤ) (dir : Dir) (format : Format) (fields : Fields format) (end : Draft) (made : Contents) → end ≡ put_fields format version fields (Begun (blank key version dir)) → end ≡ Begun made → made ≡ view_body key dir version format fields
 body_is key version dir format fields end made h k =
-    begun_body (blank key version dir) made (unfit_fields format version 0 fields) (items_before format fields []) (at_end key version dir format fields end h ∙ k)
+    begun_body (blank key version dir) made (unfit_fields format version fields) (items_before format fields []) (at_end key version dir format fields end h ∙ k)
 
-pub body_fits : (key version : ℤ) (dir : Dir) (format : Format) (fields : Fields format) (end : Draft) (made : Contents) → end ≡ put_fields format version 0 fields (Begun (blank key version dir)) → end ≡ Begun made → FitVersion format version fields
+pub body_fits : (key version : ℤ) (dir : Dir) (format : Format) (fields : Fields format) (end : Draft) (made : Contents) → end ≡ put_fields format version fields (Begun (blank key version dir)) → end ≡ Begun made → FitVersion format version fields
 body_fits key version dir format fields end made h k =
-    fields_fit format version 0 fields (begun_fits (blank key version dir) made (unfit_fields format version 0 fields) (items_before format fields []) (at_end key version dir format fields end h ∙ k))
+    fields_fit format version fields (begun_fits (blank key version dir) made (unfit_fields format version fields) (items_before format fields []) (at_end key version dir format fields end h ∙ k))
 
-pub no_body : (key version : ℤ) (dir : Dir) (format : Format) (fields : Fields format) (end : Draft) (fault : ViewFault) → end ≡ put_fields format version 0 fields (Begun (blank key version dir)) → IsDraftFault end fault → HasNoBody version format fields fault
+pub no_body : (key version : ℤ) (dir : Dir) (format : Format) (fields : Fields format) (end : Draft) (fault : ViewFault) → end ≡ put_fields format version fields (Begun (blank key version dir)) → IsDraftFault end fault → HasNoBody version format fields fault
 no_body key version dir format fields end WrongApi h k = k
 no_body key version dir format fields end (Misplaced field) h k =
-    unfit_is (blank key version dir) (unfit_fields format version 0 fields) (items_before format fields []) field (at_end key version dir format fields end h ∙ k)
+    unfit_is (blank key version dir) (unfit_fields format version fields) (items_before format fields []) field (at_end key version dir format fields end h ∙ k)
 no_body key version dir format fields end (TooLong len) h k =
     let e = at_end key version dir format fields end h ∙ k in
-    (fields_fit format version 0 fields (exceeded_fits (blank key version dir) (unfit_fields format version 0 fields) (items_before format fields []) len e), exceeded_is (blank key version dir) (unfit_fields format version 0 fields) (items_before format fields []) len e)
+    (fields_fit format version fields (exceeded_fits (blank key version dir) (unfit_fields format version fields) (items_before format fields []) len e), exceeded_is (blank key version dir) (unfit_fields format version fields) (items_before format fields []) len e)
 no_body key version dir format fields end NoMemory h k = tt
 
 -- the draft at the start, by the numbers that the calls gave
-pub from_start : (key k version v : ℤ) (dir d : Dir) (format : Format) (fields : Fields format) (start end : Draft) → SFits w16 k → SFits w16 v → end ≡ put_fields format version 0 fields start → start ≡ Begun (blank (to_z w16 (of_z w16 k)) (to_z w16 (of_z w16 v)) d) → k ≡ key → v ≡ version → d ≡ dir → end ≡ put_fields format version 0 fields (Begun (blank key version dir))
+pub from_start : (key k version v : ℤ) (dir d : Dir) (format : Format) (fields : Fields format) (start end : Draft) → SFits w16 k → SFits w16 v → end ≡ put_fields format version fields start → start ≡ Begun (blank (to_z w16 (of_z w16 k)) (to_z w16 (of_z w16 v)) d) → k ≡ key → v ≡ version → d ≡ dir → end ≡ put_fields format version fields (Begun (blank key version dir))
 from_start key k version v dir d format fields start end fk fv h s e f g =
-    h ∙ ap (put_fields format version 0 fields) (s ∙ (ap (λ x. Begun (blank x (to_z w16 (of_z w16 v)) d)) (to_z-of_z fk ∙ e) ∙ (ap (λ x. Begun (blank key x d)) (to_z-of_z fv ∙ f) ∙ ap (λ x. Begun (blank key version x)) g)))
+    h ∙ ap (put_fields format version fields) (s ∙ (ap (λ x. Begun (blank x (to_z w16 (of_z w16 v)) d)) (to_z-of_z fk ∙ e) ∙ (ap (λ x. Begun (blank key x d)) (to_z-of_z fv ∙ f) ∙ ap (λ x. Begun (blank key version x)) g)))
 
 -- the same of the result of the call
 
-pub result_body : (key version : ℤ) (dir : Dir) (format : Format) (fields : Fields format) (end : Draft) (result : Result Contents ViewFault) → end ≡ put_fields format version 0 fields (Begun (blank key version dir)) → IfOk result (λ made. end ≡ Begun made) → IfOk result (λ made. made ≡ view_body key dir version format fields)
+pub result_body : (key version : ℤ) (dir : Dir) (format : Format) (fields : Fields format) (end : Draft) (result : Result Contents ViewFault) → end ≡ put_fields format version fields (Begun (blank key version dir)) → IfOk result (λ made. end ≡ Begun made) → IfOk result (λ made. made ≡ view_body key dir version format fields)
 result_body key version dir format fields end (Ok made) h k = body_is key version dir format fields end made h k
 result_body key version dir format fields end (Err fault) h k = tt
 
-pub result_fits : (key version : ℤ) (dir : Dir) (format : Format) (fields : Fields format) (end : Draft) (result : Result Contents ViewFault) → end ≡ put_fields format version 0 fields (Begun (blank key version dir)) → IfOk result (λ made. end ≡ Begun made) → OnOk result (FitVersion format version fields)
+pub result_fits : (key version : ℤ) (dir : Dir) (format : Format) (fields : Fields format) (end : Draft) (result : Result Contents ViewFault) → end ≡ put_fields format version fields (Begun (blank key version dir)) → IfOk result (λ made. end ≡ Begun made) → OnOk result (FitVersion format version fields)
 result_fits key version dir format fields end (Ok made) h k = body_fits key version dir format fields end made h k
 result_fits key version dir format fields end (Err fault) h k = tt
 
-pub result_fault : (key version : ℤ) (dir : Dir) (format : Format) (fields : Fields format) (end : Draft) (result : Result Contents ViewFault) → end ≡ put_fields format version 0 fields (Begun (blank key version dir)) → IfErr result (IsDraftFault end) → IfErr result (HasNoBody version format fields)
+pub result_fault : (key version : ℤ) (dir : Dir) (format : Format) (fields : Fields format) (end : Draft) (result : Result Contents ViewFault) → end ≡ put_fields format version fields (Begun (blank key version dir)) → IfErr result (IsDraftFault end) → IfErr result (HasNoBody version format fields)
 result_fault key version dir format fields end (Ok made) h k = tt
 result_fault key version dir format fields end (Err fault) h k = no_body key version dir format fields end fault h k

@@ -6,11 +6,11 @@ use Rattle.tree_spelling.specs.declared.primitive.Primitive.TheVariants.{Count}
 use Rattle.kp_schema.specs.declared.kind.Kind.{Kind}
 use Rattle.tree_spelling.specs.Value.{Leaf, leaf_item}
 use Rattle.tree_spelling.specs.Body.{Contents}
-use Rattle.views.specs.Format.{Format, Finished, Single, SingleIn, Several, SeveralIn, Fields, field_count}
+use Rattle.views.specs.Format.{Format, Finished, Single, SingleIn, Several, SeveralIn, Fields}
 use Rattle.views.specs.Reading.{given_before, entries_before, array_before, items_before}
 use Rattle.views.specs.Fitting.{is_same, is_wanted, if_unfit, in_each_entry, in_given, unfit_fields}
 use Rattle.views.specs.Lengths.{excess, this_or_later, first_excess}
-use Rattle.views.specs.Writing.{Draft, Begun, Unfit, begun_with, put_item, placed_field, unfit_after, put_if_given, put_entries, put_array, put_fields}
+use Rattle.views.specs.Writing.{Draft, Begun, Unfit, begun_with, put_item, placed_field, unfit_after, put_if_given, put_field_in, put_entries, put_array, put_fields}
 use Rattle.views.specs.Drafting.{least_of, long_draft, drafted, Adds}
 use Rattle.views.proofs.Splits.{Splits, given_split, array_split, items_split}
 
@@ -89,25 +89,24 @@ then_adds : (f g : Draft → Draft) (us vs : List ℕ) (is js all : List Primiti
 then_adds f g us vs is js all e a b = subst (Adds (λ draft. g (f draft)) (us ++ vs)) (sym e) (both_add f g us vs is js a b)
 
 -- putting fields adds those that don't fit, and the items
-pub fields_add : (format : Format) (version : ℤ) (n : ℕ) (fields : Fields format) → Adds (put_fields format version n fields) (unfit_fields format version n fields) (items_before format fields [])
-fields_add Finished version n fields = nothing_adds
-fields_add (Single kind more) version n fields =
-    both_add (put_item (leaf_item kind fields.0)) (put_fields more version (n + 1) fields.1) [] (unfit_fields more version (n + 1) fields.1) (leaf_item kind fields.0 ∷ []) (items_before more fields.1 []) (item_adds (leaf_item kind fields.0)) (fields_add more version (n + 1) fields.1)
-fields_add (SingleIn first last kind more) version n fields =
+pub fields_add : (format : Format) (version : ℤ) (fields : Fields format) → Adds (put_fields format version fields) (unfit_fields format version fields) (items_before format fields [])
+unfolding put_field_in
+fields_add Finished version fields = nothing_adds
+fields_add (Single kind more) version fields =
+    both_add (put_item (leaf_item kind fields.0)) (put_fields more version fields.1) [] (unfit_fields more version fields.1) (leaf_item kind fields.0 ∷ []) (items_before more fields.1 []) (item_adds (leaf_item kind fields.0)) (fields_add more version fields.1)
+fields_add (SingleIn number first last kind more) version fields =
     let ok = is_same (is_some fields.0) (is_wanted (pos first) (pos last) version) in
     let put = put_if_given (λ x. put_item (leaf_item kind x)) fields.0 in
-    let later = put_fields more version (n + 1) fields.1 in
-    both_add (placed_field n ok) (λ draft. later (put draft)) (if_unfit n ok) (unfit_fields more version (n + 1) fields.1) [] (given_before (λ x behind. leaf_item kind x ∷ behind) fields.0 (items_before more fields.1 [])) (placed_adds n ok) (then_adds put later [] (unfit_fields more version (n + 1) fields.1) (given_before (λ x behind. leaf_item kind x ∷ behind) fields.0 []) (items_before more fields.1 []) (given_before (λ x behind. leaf_item kind x ∷ behind) fields.0 (items_before more fields.1 [])) (given_split (λ x behind. leaf_item kind x ∷ behind) (λ x r. refl) fields.0 (items_before more fields.1 [])) (given_item_adds kind fields.0) (fields_add more version (n + 1) fields.1))
-fields_add (Several entry more) version n fields =
-    let m = n + 1 + field_count entry in
-    let put = put_array (put_fields entry version (n + 1)) fields.0 in
+    let later = put_fields more version fields.1 in
+    both_add (placed_field number ok) (λ draft. later (put draft)) (if_unfit number ok) (unfit_fields more version fields.1) [] (given_before (λ x behind. leaf_item kind x ∷ behind) fields.0 (items_before more fields.1 [])) (placed_adds number ok) (then_adds put later [] (unfit_fields more version fields.1) (given_before (λ x behind. leaf_item kind x ∷ behind) fields.0 []) (items_before more fields.1 []) (given_before (λ x behind. leaf_item kind x ∷ behind) fields.0 (items_before more fields.1 [])) (given_split (λ x behind. leaf_item kind x ∷ behind) (λ x r. refl) fields.0 (items_before more fields.1 [])) (given_item_adds kind fields.0) (fields_add more version fields.1))
+fields_add (Several entry more) version fields =
+    let put = put_array (put_fields entry version) fields.0 in
     let h = items_before entry in
-    then_adds put (put_fields more version m fields.1) (in_each_entry (unfit_fields entry version (n + 1)) fields.0) (unfit_fields more version m fields.1) (array_before h fields.0 []) (items_before more fields.1 []) (array_before h fields.0 (items_before more fields.1 [])) (array_split h (items_split entry) fields.0 (items_before more fields.1 [])) (array_adds (put_fields entry version (n + 1)) (unfit_fields entry version (n + 1)) h (items_split entry) (fields_add entry version (n + 1)) fields.0) (fields_add more version m fields.1)
-fields_add (SeveralIn first last entry more) version n fields =
-    let m = n + 1 + field_count entry in
+    then_adds put (put_fields more version fields.1) (in_each_entry (unfit_fields entry version) fields.0) (unfit_fields more version fields.1) (array_before h fields.0 []) (items_before more fields.1 []) (array_before h fields.0 (items_before more fields.1 [])) (array_split h (items_split entry) fields.0 (items_before more fields.1 [])) (array_adds (put_fields entry version) (unfit_fields entry version) h (items_split entry) (fields_add entry version) fields.0) (fields_add more version fields.1)
+fields_add (SeveralIn number first last entry more) version fields =
     let ok = is_same (is_some fields.0) (is_wanted (pos first) (pos last) version) in
-    let put = put_if_given (put_array (put_fields entry version (n + 1))) fields.0 in
-    let later = put_fields more version m fields.1 in
+    let put = put_if_given (put_array (put_fields entry version)) fields.0 in
+    let later = put_fields more version fields.1 in
     let h = array_before (items_before entry) in
-    let us = in_given (in_each_entry (unfit_fields entry version (n + 1))) fields.0 in
-    both_add (placed_field n ok) (λ draft. later (put draft)) (if_unfit n ok) (us ++ unfit_fields more version m fields.1) [] (given_before h fields.0 (items_before more fields.1 [])) (placed_adds n ok) (then_adds put later us (unfit_fields more version m fields.1) (given_before h fields.0 []) (items_before more fields.1 []) (given_before h fields.0 (items_before more fields.1 [])) (given_split h (array_split (items_before entry) (items_split entry)) fields.0 (items_before more fields.1 [])) (given_adds (put_array (put_fields entry version (n + 1))) (in_each_entry (unfit_fields entry version (n + 1))) h (array_adds (put_fields entry version (n + 1)) (unfit_fields entry version (n + 1)) (items_before entry) (items_split entry) (fields_add entry version (n + 1))) fields.0) (fields_add more version m fields.1))
+    let us = in_given (in_each_entry (unfit_fields entry version)) fields.0 in
+    both_add (placed_field number ok) (λ draft. later (put draft)) (if_unfit number ok) (us ++ unfit_fields more version fields.1) [] (given_before h fields.0 (items_before more fields.1 [])) (placed_adds number ok) (then_adds put later us (unfit_fields more version fields.1) (given_before h fields.0 []) (items_before more fields.1 []) (given_before h fields.0 (items_before more fields.1 [])) (given_split h (array_split (items_before entry) (items_split entry)) fields.0 (items_before more fields.1 [])) (given_adds (put_array (put_fields entry version)) (in_each_entry (unfit_fields entry version)) h (array_adds (put_fields entry version) (unfit_fields entry version) (items_before entry) (items_split entry) (fields_add entry version)) fields.0) (fields_add more version fields.1))

@@ -78,7 +78,7 @@ fields_one (Single kind more) version x y r s p q e =
     let o = leaf_one kind x.0 y.0 (items_before more x.1 r) (items_before more y.1 s) tt tt e in
     let os = fields_one more version x.1 y.1 r s p q o.1 in
     (pair_is x y o.0 os.0, os.1)
-fields_one (SingleIn first last kind more) version x y r s p q e =
+fields_one (SingleIn number first last kind more) version x y r s p q e =
     let o = given_one (λ v. Unit {0}) (λ v behind. leaf_item kind v ∷ behind) (leaf_one kind) x.0 y.0 (items_before more x.1 r) (items_before more y.1 s) (p.0 ∙ sym q.0) (always_given x.0) (always_given y.0) e in
     let os = fields_one more version x.1 y.1 r s p.1 q.1 o.1 in
     (pair_is x y o.0 os.0, os.1)
@@ -86,7 +86,7 @@ fields_one (Several entry more) version x y r s p q e =
     let o = array_one (FitVersion entry version) (items_before entry) (fields_one entry version) x.0 y.0 (items_before more x.1 r) (items_before more y.1 s) p.0 q.0 e in
     let os = fields_one more version x.1 y.1 r s p.1 q.1 o.1 in
     (pair_is x y o.0 os.0, os.1)
-fields_one (SeveralIn first last entry more) version x y r s p q e =
+fields_one (SeveralIn number first last entry more) version x y r s p q e =
     let o = given_one (AllEntriesFit (FitVersion entry version)) (array_before (items_before entry)) (array_one (FitVersion entry version) (items_before entry) (fields_one entry version)) x.0 y.0 (items_before more x.1 r) (items_before more y.1 s) (p.0 ∙ sym q.0) p.1.0 q.1.0 e in
     let os = fields_one more version x.1 y.1 r s p.1.1 q.1.1 o.1 in
     (pair_is x y o.0 os.0, os.1)

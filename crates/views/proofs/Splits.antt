@@ -31,9 +31,9 @@ pub items_split : (format : Format) (fields : Fields format) (rest : List Primit
 unfolding given_before array_before
 items_split Finished fields rest = refl
 items_split (Single kind more) fields rest = ap (λ r. leaf_item kind fields.0 ∷ r) (items_split more fields.1 rest)
-items_split (SingleIn first last kind more) fields rest =
+items_split (SingleIn number first last kind more) fields rest =
     two_split (given_before (λ x behind. leaf_item kind x ∷ behind) fields.0) (items_before more fields.1) (given_split (λ x behind. leaf_item kind x ∷ behind) (λ x r. refl) fields.0) (items_split more fields.1) rest
 items_split (Several entry more) fields rest =
     two_split (array_before (items_before entry) fields.0) (items_before more fields.1) (array_split (items_before entry) (items_split entry) fields.0) (items_split more fields.1) rest
-items_split (SeveralIn first last entry more) fields rest =
+items_split (SeveralIn number first last entry more) fields rest =
     two_split (given_before (array_before (items_before entry)) fields.0) (items_before more fields.1) (given_split (array_before (items_before entry)) (array_split (items_before entry) (items_split entry)) fields.0) (items_split more fields.1) rest

@@ -2,7 +2,7 @@
 use Rattle.std.specs.Prelude.{◌≡◌, ℕ, ◌+◌, ℤ, pos, Bool, true, false, List, [], ◌∷◌, ◌++◌, Option, Some, None, is_some}
 use Rattle.std.specs.List.{flat_map, AllByRecursion}
 use Rattle.kp_schema.specs.Field.{is_between}
-use Rattle.views.specs.Format.{Format, Finished, Single, SingleIn, Several, SeveralIn, Fields, field_count}
+use Rattle.views.specs.Format.{Format, Finished, Single, SingleIn, Several, SeveralIn, Fields}
 
 -- whether a version is one of those from the first to the last, which have a field
 unfoldable pub is_wanted : ℤ → ℤ → ℤ → Bool
@@ -20,11 +20,11 @@ FitsIfGiven P (Some x) = P x
 abbrev pub FitVersion : (format : Format) → ℤ → Fields format → Type 0
 FitVersion Finished version fields = Unit {0}
 FitVersion (Single kind more) version fields = FitVersion more version fields.1
-FitVersion (SingleIn first last kind more) version fields =
+FitVersion (SingleIn number first last kind more) version fields =
     (is_some fields.0 ≡ is_wanted (pos first) (pos last) version) × FitVersion more version fields.1
 FitVersion (Several entry more) version fields =
     AllEntriesFit (FitVersion entry version) fields.0 × FitVersion more version fields.1
-FitVersion (SeveralIn first last entry more) version fields =
+FitVersion (SeveralIn number first last entry more) version fields =
     (is_some fields.0 ≡ is_wanted (pos first) (pos last) version) × (FitsIfGiven (AllEntriesFit (FitVersion entry version)) fields.0 × FitVersion more version fields.1)
 
 unfoldable pub is_same : Bool → Bool → Bool
@@ -45,13 +45,13 @@ abbrev pub in_given : {A : Type 0} → (A → List ℕ) → Option A → List �
 in_given f None = []
 in_given f (Some x) = f x
 
--- The numbers of the fields that don't fit the version, entry by entry. The first field has the number `n`.
-abbrev pub unfit_fields : (format : Format) → ℤ → ℕ → Fields format → List ℕ
-unfit_fields Finished version n fields = []
-unfit_fields (Single kind more) version n fields = unfit_fields more version (n + 1) fields.1
-unfit_fields (SingleIn first last kind more) version n fields =
-    if_unfit n (is_same (is_some fields.0) (is_wanted (pos first) (pos last) version)) ++ unfit_fields more version (n + 1) fields.1
-unfit_fields (Several entry more) version n fields =
-    in_each_entry (unfit_fields entry version (n + 1)) fields.0 ++ unfit_fields more version (n + 1 + field_count entry) fields.1
-unfit_fields (SeveralIn first last entry more) version n fields =
-    if_unfit n (is_same (is_some fields.0) (is_wanted (pos first) (pos last) version)) ++ (in_given (in_each_entry (unfit_fields entry version (n + 1))) fields.0 ++ unfit_fields more version (n + 1 + field_count entry) fields.1)
+-- The numbers of the fields that don't fit the version, entry by entry.
+abbrev pub unfit_fields : (format : Format) → ℤ → Fields format → List ℕ
+unfit_fields Finished version fields = []
+unfit_fields (Single kind more) version fields = unfit_fields more version fields.1
+unfit_fields (SingleIn number first last kind more) version fields =
+    if_unfit number (is_same (is_some fields.0) (is_wanted (pos first) (pos last) version)) ++ unfit_fields more version fields.1
+unfit_fields (Several entry more) version fields =
+    in_each_entry (unfit_fields entry version) fields.0 ++ unfit_fields more version fields.1
+unfit_fields (SeveralIn number first last entry more) version fields =
+    if_unfit number (is_same (is_some fields.0) (is_wanted (pos first) (pos last) version)) ++ (in_given (in_each_entry (unfit_fields entry version)) fields.0 ++ unfit_fields more version fields.1)

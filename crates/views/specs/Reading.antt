@@ -23,9 +23,9 @@ array_before f (Some entries) rest = Count (Some (length entries)) ∷ entries_b
 abbrev pub items_before : (format : Format) → Fields format → List Primitive → List Primitive
 items_before Finished fields rest = rest
 items_before (Single kind more) fields rest = leaf_item kind fields.0 ∷ items_before more fields.1 rest
-items_before (SingleIn first last kind more) fields rest =
+items_before (SingleIn number first last kind more) fields rest =
     given_before (λ x behind. leaf_item kind x ∷ behind) fields.0 (items_before more fields.1 rest)
 items_before (Several entry more) fields rest =
     array_before (items_before entry) fields.0 (items_before more fields.1 rest)
-items_before (SeveralIn first last entry more) fields rest =
+items_before (SeveralIn number first last entry more) fields rest =
     given_before (array_before (items_before entry)) fields.0 (items_before more fields.1 rest)

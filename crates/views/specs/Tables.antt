@@ -16,21 +16,22 @@ abbrev pub whole_field : Kind → Format → Format → Format
 whole_field kinds.Array entry rest = Several entry rest
 whole_field kind entry rest = Single kind rest
 
--- one that the versions from the first to the last have
-abbrev pub part_field : ℕ → ℕ → Kind → Format → Format → Format
-part_field first last kinds.Array entry rest = SeveralIn first last entry rest
-part_field first last kind entry rest = SingleIn first last kind rest
+-- one that the versions from the first to the last have, with its number
+abbrev pub part_field : ℕ → ℕ → ℕ → Kind → Format → Format → Format
+part_field number first last kinds.Array entry rest = SeveralIn number first last entry rest
+part_field number first last kind entry rest = SingleIn number first last kind rest
 
 -- The rows at one depth, up to the first that lies less deep. What they stand in has the versions from
 -- `least` to `greatest`. What lies deeper belongs to the array before it, and has that array's versions.
-abbrev pub rows_format : ℕ → ℕ → ℕ → List Field → Format
-rows_format least greatest depth [] = Finished
-rows_format least greatest depth (f ∷ fs) =
+-- `number` counts the rows of the message, from 0.
+abbrev pub rows_format : ℕ → ℕ → ℕ → ℕ → List Field → Format
+rows_format least greatest depth number [] = Finished
+rows_format least greatest depth number (f ∷ fs) =
     if nat_lt f.depth depth then Finished
-    else if nat_lt depth f.depth then rows_format least greatest depth fs
-    else if (version_number f.from == least) && (version_number f.to == greatest) then whole_field f.kind (rows_format (version_number f.from) (version_number f.to) (depth + 1) fs) (rows_format least greatest depth fs)
-    else part_field (version_number f.from) (version_number f.to) f.kind (rows_format (version_number f.from) (version_number f.to) (depth + 1) fs) (rows_format least greatest depth fs)
+    else if nat_lt depth f.depth then rows_format least greatest depth (number + 1) fs
+    else if (version_number f.from == least) && (version_number f.to == greatest) then whole_field f.kind (rows_format (version_number f.from) (version_number f.to) (depth + 1) (number + 1) fs) (rows_format least greatest depth (number + 1) fs)
+    else part_field number (version_number f.from) (version_number f.to) f.kind (rows_format (version_number f.from) (version_number f.to) (depth + 1) (number + 1) fs) (rows_format least greatest depth (number + 1) fs)
 
 -- a message's format follows its rows
 abbrev pub IsFormatOf : Message → Dir → Format → Type 0
-IsFormatOf message dir format = format ≡ rows_format message.least message.greatest 0 (rows message dir)
+IsFormatOf message dir format = format ≡ rows_format message.least message.greatest 0 0 (rows message dir)

@@ -27,7 +27,7 @@ pub record IsLeastOf (numbers : List ℕ) (number : ℕ) : Type 0 where
 -- why there is no body of a view
 abbrev pub HasNoBody : ℤ → (format : Format) → Fields format → ViewFault → Type 0
 HasNoBody version format fields WrongApi = ⊥
-HasNoBody version format fields (Misplaced field) = IsLeastOf (unfit_fields format version 0 fields) field
+HasNoBody version format fields (Misplaced field) = IsLeastOf (unfit_fields format version fields) field
 HasNoBody version format fields (TooLong len) =
     FitVersion format version fields × (first_excess (items_before format fields []) ≡ Some len)
 HasNoBody version format fields NoMemory = Unit {0}

@@ -5,7 +5,7 @@ use Rattle.tree_spelling.specs.declared.primitive.Primitive.TheVariants.{Count}
 use Rattle.tree_spelling.specs.Value.{leaf_item}
 use Rattle.tree_spelling.specs.Body.{Contents}
 use Rattle.tree_spelling.specs.Building.{with_next}
-use Rattle.views.specs.Format.{Format, Finished, Single, SingleIn, Several, SeveralIn, Fields, field_count}
+use Rattle.views.specs.Format.{Format, Finished, Single, SingleIn, Several, SeveralIn, Fields}
 use Rattle.views.specs.Fitting.{is_same, is_wanted}
 use Rattle.views.specs.Lengths.{excess}
 
@@ -42,6 +42,11 @@ unfoldable pub put_if_given : {A : Type 0} → (A → Draft → Draft) → Optio
 put_if_given f None draft = draft
 put_if_given f (Some x) draft = f x draft
 
+-- the field with this number, which the versions from the first to the last have: put where it is given
+unfoldable pub put_field_in : {A : Type 0} → (A → Draft → Draft) → ℕ → ℤ → ℤ → ℤ → Option A → Draft → Draft
+put_field_in f number first last version x draft =
+    put_if_given f x (placed_field number (is_same (is_some x) (is_wanted first last version)) draft)
+
 abbrev pub put_entries : {A : Type 0} → (A → Draft → Draft) → List A → Draft → Draft
 put_entries f [] draft = draft
 put_entries f (entry ∷ entries) draft = put_entries f entries (f entry draft)
@@ -50,14 +55,14 @@ unfoldable pub put_array : {A : Type 0} → (A → Draft → Draft) → Option (
 put_array f None draft = put_item (Count None) draft
 put_array f (Some entries) draft = put_entries f entries (put_item (Count (Some (length entries))) draft)
 
--- the fields, of which the first has this number
-abbrev pub put_fields : (format : Format) → ℤ → ℕ → Fields format → Draft → Draft
-put_fields Finished version n fields draft = draft
-put_fields (Single kind more) version n fields draft =
-    put_fields more version (n + 1) fields.1 (put_item (leaf_item kind fields.0) draft)
-put_fields (SingleIn first last kind more) version n fields draft =
-    put_fields more version (n + 1) fields.1 (put_if_given (λ x. put_item (leaf_item kind x)) fields.0 (placed_field n (is_same (is_some fields.0) (is_wanted (pos first) (pos last) version)) draft))
-put_fields (Several entry more) version n fields draft =
-    put_fields more version (n + 1 + field_count entry) fields.1 (put_array (put_fields entry version (n + 1)) fields.0 draft)
-put_fields (SeveralIn first last entry more) version n fields draft =
-    put_fields more version (n + 1 + field_count entry) fields.1 (put_if_given (put_array (put_fields entry version (n + 1))) fields.0 (placed_field n (is_same (is_some fields.0) (is_wanted (pos first) (pos last) version)) draft))
+-- the fields
+abbrev pub put_fields : (format : Format) → ℤ → Fields format → Draft → Draft
+put_fields Finished version fields draft = draft
+put_fields (Single kind more) version fields draft =
+    put_fields more version fields.1 (put_item (leaf_item kind fields.0) draft)
+put_fields (SingleIn number first last kind more) version fields draft =
+    put_fields more version fields.1 (put_field_in (λ x. put_item (leaf_item kind x)) number (pos first) (pos last) version fields.0 draft)
+put_fields (Several entry more) version fields draft =
+    put_fields more version fields.1 (put_array (put_fields entry version) fields.0 draft)
+put_fields (SeveralIn number first last entry more) version fields draft =
+    put_fields more version fields.1 (put_field_in (put_array (put_fields entry version)) number (pos first) (pos last) version fields.0 draft)

@@ -1,4 +1,4 @@
-ghost use Rattle.std.specs.Prelude.{◌≡◌, ℕ, IfOk, OnOk};
+ghost use Rattle.std.specs.Prelude.{◌≡◌, IfOk, OnOk};
 ghost use Rattle.views.specs.Format.{Format, Fields};
 ghost use Rattle.views.specs.Reading.{items_before};
 ghost use Rattle.views.specs.Fitting.{FitVersion};
@@ -17,9 +17,6 @@ pub trait Entry: Drop {
     /// The values of the fields.
     ghost fields: { Self → Fields format };
 
-    /// The number of its first field in its message, where a field of it can be missing.
-    ghost first: { ℕ };
-
     /// Reads an entry of this version of its message.
     fn read(alloc: Global, version: i16, cursor: &mut Cursor) -> Result<Self, NoMemory>
         ensures items { IfOk result (λ entry. cursor.old ≡ items_before format (fields entry) cursor.new) }
@@ -27,5 +24,5 @@ pub trait Entry: Drop {
 
     /// Puts the entry's fields.
     fn write(&self, version: &i16, writer: &mut Writer) -> Result<(), NoMemory>
-        ensures { OnOk result (writer.new ≡ put_fields format version.now first (fields self.now) writer.old) };
+        ensures { OnOk result (writer.new ≡ put_fields format version.now (fields self.now) writer.old) };
 }

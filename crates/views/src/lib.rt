@@ -10,8 +10,7 @@
 //! ```
 //!
 //! A [`View`] is a struct of this kind, and an [`Entry`] is what stands in one of its arrays. Here is what all of them
-//! share: `of` and `body`, the calls by which a struct says its fields, and the law that items have one view. No message
-//! has its struct yet.
+//! share: `of` and `body`, the calls by which a struct says its fields, and the law that items have one view.
 //!
 //! What a view is of its body is said by a *format* and by the values of its fields in that order (`specs/Format.antt`),
 //! from which follow the items (`specs/Reading.antt`) and which fields don't fit the version (`specs/Fitting.antt`).

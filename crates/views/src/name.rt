@@ -18,8 +18,6 @@ impl Entry for Name {
 
     ghost fields = { name_fields };
 
-    ghost first = { 0 };
-
     fn read(alloc: Global, version: i16, cursor: &mut Cursor) -> Result<Self, NoMemory> {
         let _ = (alloc, version);
         Ok(Name { it: cursor.text()? })

@@ -17,8 +17,6 @@ impl Entry for Number {
 
     ghost fields = { number_fields };
 
-    ghost first = { 0 };
-
     fn read(alloc: Global, version: i16, cursor: &mut Cursor) -> Result<Self, NoMemory> {
         let _ = (alloc, version);
         Ok(Number {

@@ -50,7 +50,7 @@ pub trait View: Drop {
 
     /// Puts the fields.
     fn write(&self, writer: &mut Writer) -> Result<(), NoMemory>
-        ensures { OnOk result (writer.new ≡ put_fields format (version_of self.now) 0 (fields self.now) writer.old) };
+        ensures { OnOk result (writer.new ≡ put_fields format (version_of self.now) (fields self.now) writer.old) };
 
     /// The view of a body. Its texts, and its lists of bytes, are parts of the frames that the body's came in.
     final fn of(alloc: Global, body: &Body) -> Result<Self, ViewFault>

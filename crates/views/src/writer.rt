@@ -1,12 +1,12 @@
 //! A body that is made of a view.
-#![tactic(auto, unfolding(crate::specs::Fitting::is_same, crate::specs::Writing::put_item, crate::specs::Writing::placed_field, crate::specs::Writing::put_if_given, crate::specs::Writing::put_array))]
+#![tactic(auto, unfolding(crate::specs::Fitting::is_same, crate::specs::Writing::put_item, crate::specs::Writing::placed_field, crate::specs::Writing::put_if_given, crate::specs::Writing::put_array, crate::specs::Writing::put_field_in))]
 
-ghost use Rattle.std.specs.Prelude.{◌≡◌, pos, [], ◌∷◌, length, map, option_map, Option, Some, None, is_some, false, IfOk, IfErr, OnOk};
+ghost use Rattle.std.specs.Prelude.{◌≡◌, pos, [], ◌∷◌, length, map, option_map, Option, Some, None, false, IfOk, IfErr, OnOk};
 ghost use Rattle.tree_spelling.specs.declared.primitive.Primitive.TheVariants as items;
 ghost use Rattle.views.specs.Fitting.{is_same, is_wanted};
 ghost use Rattle.views.specs.Lengths.{excess};
 ghost use Rattle.views.specs.Drafts.{IsDraftFault};
-ghost use Rattle.views.specs.Writing.{Begun, put_item, put_if_given, put_array, put_entries, put_fields, placed_field};
+ghost use Rattle.views.specs.Writing.{Begun, put_item, put_field_in, put_array, put_entries, put_fields, placed_field};
 
 use crate::cursor::has_field;
 use crate::entries::Entries;
@@ -183,7 +183,7 @@ impl Writer {
         last: i16,
         value: &Option<i8>,
     ) -> Result<(), NoMemory>
-        ensures { OnOk result (self.new ≡ put_if_given (λ x. put_item (items.Int8 x)) value.now (placed_field field (is_same (is_some value.now) (is_wanted first last version.now)) self.old)) }
+        ensures { OnOk result (self.new ≡ put_field_in (λ x. put_item (items.Int8 x)) field first last version.now value.now self.old) }
     {
         self.place(field, value.is_some(), version, first, last);
         match value {
@@ -201,7 +201,7 @@ impl Writer {
         last: i16,
         value: &Option<i16>,
     ) -> Result<(), NoMemory>
-        ensures { OnOk result (self.new ≡ put_if_given (λ x. put_item (items.Int16 x)) value.now (placed_field field (is_same (is_some value.now) (is_wanted first last version.now)) self.old)) }
+        ensures { OnOk result (self.new ≡ put_field_in (λ x. put_item (items.Int16 x)) field first last version.now value.now self.old) }
     {
         self.place(field, value.is_some(), version, first, last);
         match value {
@@ -219,7 +219,7 @@ impl Writer {
         last: i16,
         value: &Option<i32>,
     ) -> Result<(), NoMemory>
-        ensures { OnOk result (self.new ≡ put_if_given (λ x. put_item (items.Int32 x)) value.now (placed_field field (is_same (is_some value.now) (is_wanted first last version.now)) self.old)) }
+        ensures { OnOk result (self.new ≡ put_field_in (λ x. put_item (items.Int32 x)) field first last version.now value.now self.old) }
     {
         self.place(field, value.is_some(), version, first, last);
         match value {
@@ -237,7 +237,7 @@ impl Writer {
         last: i16,
         value: &Option<i64>,
     ) -> Result<(), NoMemory>
-        ensures { OnOk result (self.new ≡ put_if_given (λ x. put_item (items.Int64 x)) value.now (placed_field field (is_same (is_some value.now) (is_wanted first last version.now)) self.old)) }
+        ensures { OnOk result (self.new ≡ put_field_in (λ x. put_item (items.Int64 x)) field first last version.now value.now self.old) }
     {
         self.place(field, value.is_some(), version, first, last);
         match value {
@@ -255,7 +255,7 @@ impl Writer {
         last: i16,
         value: &Option<u8>,
     ) -> Result<(), NoMemory>
-        ensures { OnOk result (self.new ≡ put_if_given (λ x. put_item (items.Boolean x)) value.now (placed_field field (is_same (is_some value.now) (is_wanted first last version.now)) self.old)) }
+        ensures { OnOk result (self.new ≡ put_field_in (λ x. put_item (items.Boolean x)) field first last version.now value.now self.old) }
     {
         self.place(field, value.is_some(), version, first, last);
         match value {
@@ -273,7 +273,7 @@ impl Writer {
         last: i16,
         value: &Option<Option<Bytes>>,
     ) -> Result<(), NoMemory>
-        ensures { OnOk result (self.new ≡ put_if_given (λ x. put_item (items.Text x)) value.now (placed_field field (is_same (is_some value.now) (is_wanted first last version.now)) self.old)) }
+        ensures { OnOk result (self.new ≡ put_field_in (λ x. put_item (items.Text x)) field first last version.now value.now self.old) }
     {
         self.place(field, value.is_some(), version, first, last);
         match value {
@@ -288,7 +288,7 @@ impl Writer {
         version: &i16,
         entries: &Option<Entries<E>>,
     ) -> Result<(), NoMemory>
-        ensures { OnOk result (self.new ≡ put_array (put_fields E.format version.now E.first) (option_map (map E.fields) entries.now) self.old) }
+        ensures { OnOk result (self.new ≡ put_array (put_fields E.format version.now) (option_map (map E.fields) entries.now) self.old) }
     {
         match entries {
             Some(entries) => {
@@ -308,7 +308,7 @@ impl Writer {
         last: i16,
         value: &Option<Option<Entries<E>>>,
     ) -> Result<(), NoMemory>
-        ensures { OnOk result (self.new ≡ put_if_given (put_array (put_fields E.format version.now E.first)) (option_map (option_map (map E.fields)) value.now) (placed_field field (is_same (is_some (option_map (option_map (map E.fields)) value.now)) (is_wanted first last version.now)) self.old)) }
+        ensures { OnOk result (self.new ≡ put_field_in (put_array (put_fields E.format version.now)) field first last version.now (option_map (option_map (map E.fields)) value.now) self.old) }
     {
         self.place(field, value.is_some(), version, first, last);
         match value {
@@ -330,7 +330,7 @@ impl Writer {
     }
 
     fn entries<E: Entry>(&mut self, version: &i16, entries: &[E]) -> Result<(), NoMemory>
-        ensures { OnOk result (self.new ≡ put_entries (put_fields E.format version.now E.first) (map E.fields entries.now) self.old) }
+        ensures { OnOk result (self.new ≡ put_entries (put_fields E.format version.now) (map E.fields entries.now) self.old) }
     {
         for entry in entries {
             entry.write(version, self)?;

@@ -1,4 +1,4 @@
-use Rattle.std.proofs.Common.{◌≡◌, ◌∷◌, [], ℤ, Option, Some, sym, ap, ◌∙◌, rules, FitsSigned, w16, to_z, of_z}
+use Rattle.std.proofs.Common.{◌≡◌, ◌∷◌, [], Some, ap, ◌∙◌, rules, FitsSigned, w16, to_z, of_z}
 use Rattle.std.proofs.lemmas.Int.{to_z-of_z}
 use Rattle.tree_spelling.specs.declared.primitive.Primitive.TheVariants.{Int16}
 use Rattle.api_versions.specs.Narrowing.{known_in, supported_range, with_items}

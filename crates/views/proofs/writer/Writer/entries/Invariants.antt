@@ -4,4 +4,4 @@ use Rattle.views.proofs.writer.Writer.entries.Given as goal
 
 abbrev pub invariant-loop-entry : goal.invariant-loop-entry
 invariant-loop-entry g l =
-    l.self ≡ put_entries (put_fields g.E.Entry.format l.version g.E.Entry.first) (map g.E.Entry.fields (take l.entry-index l.entries)) l.initial.self
+    l.self ≡ put_entries (put_fields g.E.Entry.format l.version) (map g.E.Entry.fields (take l.entry-index l.entries)) l.initial.self
