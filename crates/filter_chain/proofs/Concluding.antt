@@ -1,5 +1,5 @@
 -- What stands for a request that stopped is the request's own state.
-use Rattle.std.proofs.Common.{◌≡◌, ◌∙◌, ap, refl, sym, subst, ℕ, zero, suc, ◌+◌, ◌<◌, ◌≤◌, Bool, true, false, if◌then◌else◌, nat_lt, List, [], ◌∷◌, ◌++◌, length, map, drop, arith, append-nil, append_assoc}
+use Rattle.std.proofs.Common.{◌≡◌, ◌∙◌, ap, refl, sym, subst, ℕ, zero, suc, ◌+◌, ◌-◌, ◌<◌, ◌≤◌, Bool, true, false, if◌then◌else◌, nat_lt, List, [], ◌∷◌, ◌++◌, length, map, drop, arith, append-nil, append_assoc}
 use Rattle.std.proofs.lemmas.Bool.{lt-ltb, le-ltb}
 use Rattle.tree_spelling.specs.Body.{Contents}
 use Rattle.filter_core.specs.declared.input.Input.{Input}
@@ -20,7 +20,7 @@ use Rattle.filter_core.specs.Responses.{response_given}
 use Rattle.filter_chain.specs.Chain.{Fate, Back, Awaits, Closes, Course, behind_turns, asked_outside, way_from}
 use Rattle.filter_chain.specs.Outcomes.{Outcome, Needs, Completed, Shuts, outcome_after, course, run, turns}
 use Rattle.filter_chain.specs.Suspensions.{resumed, stopped, as_awaited, awaited_by, AreSuspended, StandFor, Leads, IsConclusion}
-use Rattle.filter_chain.specs.RunStates.{RunsFor, IsState}
+use Rattle.filter_chain.specs.RunStates.{RunsFor, IsState, state_budget_left}
 use Rattle.filter_chain.proofs.Courses.{behind_none, resumed_asks}
 use Rattle.filter_chain.proofs.Suspensions.{one_longer}
 
@@ -29,6 +29,18 @@ may_ask given ask h = ap (λ b. if b then Needs ask else Shuts cause.AskBudget) 
 
 may_not_ask : (given : ℕ) (ask : Ask) → ask_limit ≤ given → outcome_after given (Awaits ask) ≡ Shuts cause.AskBudget
 may_not_ask given ask h = ap (λ b. if b then Needs ask else Shuts cause.AskBudget) (le-ltb given ask_limit h)
+
+-- who asks has one ask fewer left
+pub fewer_left : {P : Type 0} (ss : List (Suspended P)) (asked : ℕ) (st : Stop) (r : State P) → IsConclusion ss asked st r → state_budget_left r ≤ ask_limit - asked
+fewer_left ss asked (stop.Asks question) (state.Needs r ask) h = omega (arith, h.1, h.4)
+fewer_left ss asked (stop.Asks question) (state.Done response) h = omega arith
+fewer_left ss asked (stop.Asks question) (state.Shut cause) h = omega arith
+fewer_left ss asked (stop.Done input) (state.Needs r ask) h = absurd h
+fewer_left ss asked (stop.Done input) (state.Done response) h = omega arith
+fewer_left ss asked (stop.Done input) (state.Shut cause) h = omega arith
+fewer_left ss asked (stop.Shut k reason) (state.Needs r ask) h = absurd h
+fewer_left ss asked (stop.Shut k reason) (state.Done response) h = omega arith
+fewer_left ss asked (stop.Shut k reason) (state.Shut cause) h = omega arith
 
 module _ {F P : Type 0} (turn : F → Turn) (stands : F → P → Contents → List Input → Type 0) (chain : List F) (request : Contents) (given : List Outside) where
   -- what becomes of the request, whatever more it is given

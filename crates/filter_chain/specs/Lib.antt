@@ -4,4 +4,3 @@ pub mod Outcomes
 pub mod Laws
 pub mod Suspensions
 pub mod RunStates
-pub mod Probes

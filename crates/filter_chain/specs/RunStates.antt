@@ -1,9 +1,10 @@
 -- What `Run::start` and `Run::poll` answer.
-use Rattle.std.specs.Prelude.{◌≡◌, ℕ, suc, ◌+◌, List, ◌∷◌, ◌++◌, length, map, Option}
+use Rattle.std.specs.Prelude.{◌≡◌, ℕ, suc, ◌+◌, ◌-◌, List, ◌∷◌, ◌++◌, length, map, Option}
 use Rattle.tree_spelling.specs.Body.{Contents}
 use Rattle.filter_core.specs.declared.input.Input.{Input}
 use Rattle.filter_core.specs.Decision.{Turn}
 use Rattle.side_requests.specs.declared.ask.Ask.{Ask}
+use Rattle.side_requests.specs.AskNumbers.{ask_limit}
 use Rattle.filter_chain.specs.declared.outside.Outside.{Outside}
 use Rattle.filter_chain.specs.declared.run.Run.{Run}
 use Rattle.filter_chain.specs.declared.state.State.{State}
@@ -12,6 +13,16 @@ use Rattle.filter_chain.specs.declared.passing.Stop.TheVariants as stop
 use Rattle.filter_chain.specs.declared.passing.Next.TheVariants as next
 use Rattle.filter_chain.specs.Outcomes.{Needs, Completed, Shuts, course, run, turns}
 use Rattle.filter_chain.specs.Suspensions.{StandFor, awaited_by}
+
+-- how often a run may ask once more
+abbrev pub budget_left : {P : Type 0} → Run P → ℕ
+budget_left r = ask_limit - r.book
+
+-- how often a request that stands so may ask, with what it asks now
+abbrev pub state_budget_left : {P : Type 0} → State P → ℕ
+state_budget_left (state.Needs r ask) = suc (budget_left r)
+state_budget_left (state.Done response) = 0
+state_budget_left (state.Shut cause) = 0
 
 module _ {F P : Type 0} (turn : F → Turn) (stands : F → P → Contents → List Input → Type 0) where
   -- the run is that of a request which was given so much, under the chain

@@ -1,9 +1,9 @@
-ghost use Rattle.std.specs.Prelude.{◌≡◌, ◌+◌, [], ◌∷◌, ◌++◌, List, map, IfOk, OnOk};
+ghost use Rattle.std.specs.Prelude.{◌≡◌, ◌≤◌, ◌+◌, [], ◌∷◌, ◌++◌, List, map, IfOk, OnOk};
 ghost use Rattle.tree_spelling.specs.Body.{Contents};
 ghost use Rattle.filter_chain.specs.declared.outside.Outside.{Outside};
 ghost use Rattle.filter_chain.specs.Outcomes.{turns};
 ghost use Rattle.filter_chain.specs.Suspensions.{IsConclusion};
-ghost use Rattle.filter_chain.specs.RunStates.{IsState, RunsFor};
+ghost use Rattle.filter_chain.specs.RunStates.{IsState, RunsFor, budget_left, state_budget_left};
 
 use crate::awaited::Awaited;
 use crate::outside::Outside;
@@ -57,6 +57,9 @@ impl<P: Drop> Run<P> {
             → IsState F.turn F.stands chain.now request (given ++ outside ∷ []) state) }
         ensures counted { OnOk result ((request : Contents) (given : List Outside) → RunsFor F.turn F.stands chain.now request given self
             → steps.new + turns (map F.turn chain.now) request given ≡ steps.old + turns (map F.turn chain.now) request (given ++ outside ∷ [])) }
+
+        // It asks 64 times at most, so each poll leaves it fewer.
+        ensures fewer { IfOk result (λ state. state_budget_left state ≤ budget_left self) }
     {
         let mut suspended = self.suspended;
         let passing = Passing::Input(self.awaits.input_of(outside));

@@ -1,3 +1,3 @@
 // What no clause says: that memory suffices, how often filters have a turn, and whole runs beside a plain program.
-mod probe;
+mod by_plain_chain;
 mod row;

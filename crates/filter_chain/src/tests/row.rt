@@ -1,7 +1,7 @@
 // Chains that ask aside, to the budget and past it.
-use super::probe::{Probe, heartbeat, heartbeat_error};
 use crate::{Outside, Run, ShutCause, State};
 use filter_core::Reason;
+use filter_probes::{Probe, heartbeat, heartbeat_error};
 use kp_edge::{NoMemory, Steps};
 use side_requests::Ask;
 use std::alloc::Global;

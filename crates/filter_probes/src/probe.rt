@@ -1,8 +1,7 @@
-// A filter of the tests, which counts its turns.
 ghost use Rattle.std.specs.Prelude.{◌≡◌, [], None, IfOk, OnOk};
 ghost use Rattle.tree_spelling.specs.Building.{with_next};
 ghost use Rattle.filter_core.specs.Decision.{Makes};
-ghost use Rattle.filter_chain.specs.Probes.{probe_heartbeat, metadata, heartbeat_error, altered, probe_asking, how_often, AskingNow, is_message, on_request_of};
+ghost use Rattle.filter_probes.specs.Probes.{probe_heartbeat, metadata, heartbeat_error, altered, probe_asking, how_often, AskingNow, is_message, on_request_of};
 
 use bytes::Bytes;
 use filter_core::{Filter, Input, Move, Reason};
@@ -12,17 +11,16 @@ use std::alloc::Global;
 use std::sync::atomic::{AtomicU64, Ordering};
 use tree_codec::{Body, Builder, Primitive};
 
-// What it keeps: the request, if it is still to be forwarded, and how often it asks before.
+/// What a probe keeps: the request, if it is still to be forwarded, and how often it asks before.
 #[derive(Drop)]
-pub(super) struct Waits {
+pub struct Waits {
     request: Option<Body>,
     left: u8,
 }
 
-// Where it asks: what it asks (a Heartbeat aside, Metadata aside, or a verdict), and how often before it forwards. Else
-// what it does on its two turns.
+/// A filter that counts its turns. It asks some questions and then forwards the request, or it has two turns.
 #[derive(Drop)]
-pub(super) struct Probe {
+pub struct Probe {
     asks: bool,
     what: u8,
     times: u8,
@@ -30,7 +28,9 @@ pub(super) struct Probe {
 }
 
 impl Probe {
-    pub(super) fn asking(what: u8, times: u8) -> Probe {
+    /// It asks so often, three times at most, and then forwards the request. 0 asks a Heartbeat aside, 1 asks Metadata
+    /// aside, and another number holds.
+    pub fn asking(what: u8, times: u8) -> Probe {
         Probe {
             asks: true,
             what,
@@ -39,7 +39,9 @@ impl Probe {
         }
     }
 
-    pub(super) fn two_turns(what: u8) -> Probe {
+    /// 0 changes what comes back for a Heartbeat of version 0 to error 77. 1 answers such a Heartbeat at once with error
+    /// 55. 2 shuts with code 7. Another number shuts at Metadata of version 4 with code 3. What isn't named here passes.
+    pub fn two_turns(what: u8) -> Probe {
         Probe {
             asks: false,
             what,
@@ -48,8 +50,8 @@ impl Probe {
         }
     }
 
-    // How many turns it had.
-    pub(super) fn calls(&self) -> u64 {
+    /// How many turns it had.
+    pub fn calls(&self) -> u64 {
         self.calls.load(Ordering::SeqCst)
     }
 
@@ -93,7 +95,7 @@ impl Probe {
 }
 
 impl Filter for Probe {
-    ghost use Rattle.filter_chain.specs.Probes.{probe_turn, ProbeIsWaiting, probe_forwards_once, probe_ends, probe_forwards_same, probe_answered, probe_returns};
+    ghost use Rattle.filter_probes.specs.Probes.{probe_turn, ProbeIsWaiting, probe_forwards_once, probe_ends, probe_forwards_same, probe_answered, probe_returns};
 
     type Pending = Waits;
 
@@ -171,7 +173,8 @@ fn finish(out: Builder) -> Result<Body, NoMemory>
     }
 }
 
-pub(super) fn heartbeat(alloc: Global) -> Result<Body, NoMemory>
+/// A Heartbeat request of version 0.
+pub fn heartbeat(alloc: Global) -> Result<Body, NoMemory>
     ensures { IfOk result (λ body. body ≡ probe_heartbeat) }
 {
     let mut out = Builder::new(alloc, 12, 0, Dir::Request);
@@ -190,7 +193,8 @@ fn metadata(alloc: Global) -> Result<Body, NoMemory>
     finish(out)
 }
 
-pub(super) fn heartbeat_error(alloc: Global, error: i16) -> Result<Body, NoMemory>
+/// A Heartbeat response of version 0 with this error.
+pub fn heartbeat_error(alloc: Global, error: i16) -> Result<Body, NoMemory>
     ensures { IfOk result (λ body. body ≡ heartbeat_error error) }
 {
     let mut out = Builder::new(alloc, 12, 0, Dir::Response);
