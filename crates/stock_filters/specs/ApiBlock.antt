@@ -1,12 +1,11 @@
 -- `api-block`: a request for a listed API shuts the connection, with the API's key as the code.
-use Rattle.std.specs.Prelude.{◌≡◌, ℤ, pos, negsuc, Bool, true, false, if◌then◌else◌, List, Option, Some}
+use Rattle.std.specs.Prelude.{◌≡◌, ℤ, pos, negsuc, Bool, true, false, if◌then◌else◌, List, Option}
 use Rattle.std.specs.List.{list_any}
 use Rattle.std.specs.Ordering.{int_eq}
-use Rattle.std.proofs.Common.{sym, ◌∙◌, subst, refl}
+use Rattle.std.proofs.Common.{subst, refl}
 use Rattle.tree_spelling.specs.Body.{Contents}
 use Rattle.filter_core.specs.declared.reason.Reason.TheVariants.{Code}
 use Rattle.filter_core.specs.Decision.{Decision, Forward, Return, Shut, Turn}
-use Rattle.filter_core.specs.Inputs.{IsWholeRequest}
 use Rattle.filter_core.specs.Laws.{IsSentOnAs}
 use Rattle.filter_core.specs.TwoTurns.{two_turns, handed_back}
 use Rattle.filter_core.specs.Lawful.{IsNoQuestion, KeepsLaws, handing_back, sent_on_itself}

@@ -1,1 +1,13 @@
 pub mod ApiBlock
+pub mod GroupLive
+pub mod GroupTrees
+pub mod GroupLaws
+pub mod CreateTopics
+pub mod CreateTopicsTrees
+pub mod ScreenLaws
+pub mod TopicExists
+pub mod TopicPolicy
+pub mod Narrow
+pub mod Produce
+pub mod ProduceAll
+pub mod TopicDeny
