@@ -11,11 +11,13 @@ import sys
 import tempfile
 from pathlib import Path
 
-from replay import MOST_GROWTH, WHOLE, Script, exchange, heartbeat, is_same, one_by_one, run, verdict
+from replay import MOST_GROWTH, WHOLE, Script, exchange, heartbeat, is_same, one_by_one, request_lines, run, verdict
 
 RUNS = 9
 LEAST_SPEED = 0.2  # of Metadata and OffsetCommit, over the speed of xxd
 LEAST_BATCH_SPEED = 0.6  # of record batches
+LEAST_PRODUCE_SPEED = 0.5  # of Produce requests of a thousand bytes
+LEAST_GREAT_PRODUCE_SPEED = 0.7  # and of a hundred thousand
 MOST_SLOWER = 1.1  # Heartbeats, over the program before
 MOST_LARGER = 1.1  # peak memory of a great answer, over the program before
 
@@ -60,6 +62,21 @@ def fetch(index, batch):
     return exchange(index, bytes.fromhex("0001 0004"), request, answer)
 
 
+def produce(index, batch, acks):
+    """Produce, version 3, of one partition with one record batch of so many bytes."""
+    partition = number(0, 4) + number(batch, 4) + bytes(batch)
+    request = number(-1, 2) + number(acks, 2) + number(1000, 4) + array([text("topic") + array([partition])])
+    told = number(0, 4) + number(0, 2) + number(9, 8) + number(-1, 8)
+    return exchange(index, bytes.fromhex("0000 0003"), request, array([text("topic") + array([told])]) + number(0, 4))
+
+
+def silent(exchanges, piece):
+    """Each request is sent and passed before the next one comes, and gets no response."""
+    for it in exchanges:
+        yield from request_lines(it, piece)
+        yield "emit", "later"
+
+
 def in_turns(commands, runs=RUNS):
     """The least processor time of each command, a list of words with the file that it is given, and its greatest peak."""
     timings = {name: [] for name in commands}
@@ -77,9 +94,9 @@ def compared(program, name, script):
     written.unlink()
 
 
-def timed(programs, name, exchanges, folder):
+def timed(programs, name, exchanges, folder, lines=one_by_one):
     """Times each program and xxd on a script of these exchanges: from each name to seconds and peak; the bytes of it."""
-    script = Script(folder, one_by_one(exchanges, WHOLE))
+    script = Script(folder, lines(exchanges, WHOLE))
     compared(programs["kproxy"], name, script)
     commands = {key: (words, script.text) for key, words in programs.items()}
     commands["xxd"] = ["xxd", "-r", "-p"], script.digits
@@ -106,6 +123,24 @@ def held_against_xxd(program, folder):
         yield verdict(f"speed over that of xxd, on the same digits: {name}", speed, f"at least {wanted}", speed >= wanted)
 
 
+def produced_against_xxd(program, folder):
+    cases = [
+        (1_000, (10_000, 100_000), LEAST_PRODUCE_SPEED),
+        (100_000, (100, 1_000), LEAST_GREAT_PRODUCE_SPEED),
+    ]
+    for batch, counts, wanted in cases:
+        for acks, lines in (0, silent), (1, one_by_one):
+            name = f"Produce of {batch:,} bytes, acks {acks}"
+            rates = []
+            for count in counts:
+                exchanges = (produce(index, batch, acks) for index in range(count))
+                found, size = timed({"kproxy": program}, f"{name}: {count:,}", exchanges, folder, lines)
+                rates.append(found["kproxy"][0] / size)
+            growth, speed = rates[1] / rates[0], found["xxd"][0] / found["kproxy"][0]
+            yield verdict(f"time per byte, larger over smaller: {name}", growth, f"at most {MOST_GROWTH}", growth <= MOST_GROWTH)
+            yield verdict(f"speed over that of xxd, on the same digits: {name}", speed, f"at least {wanted}", speed >= wanted)
+
+
 def held_against_before(program, before, folder):
     programs = {"kproxy": program, "before": before}
     found, _ = timed(programs, "Heartbeats: 100,000", map(heartbeat, range(100_000)), folder)
@@ -122,7 +157,7 @@ def main():
     program, *before = [[os.path.abspath(it), "replay"] for it in sys.argv[1:]]
     print(f"{'':<44} {'':<8} {'processor':>9} {'peak MiB':>9}")
     with tempfile.TemporaryDirectory() as folder:
-        met = list(held_against_xxd(program, folder))
+        met = list(held_against_xxd(program, folder)) + list(produced_against_xxd(program, folder))
         if before:
             met += held_against_before(program, before[0], folder)
     return 0 if all(met) else 1

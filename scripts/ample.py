@@ -23,7 +23,9 @@ HEARTBEAT = bytes.fromhex("000c 0000")
 SYNC_GROUP = bytes.fromhex("000e 0000")
 LIST_GROUPS = bytes.fromhex("0010 0000")
 METADATA_1 = bytes.fromhex("0003 0001")
+API_VERSIONS_2 = bytes.fromhex("0012 0002")
 API_VERSIONS_3 = bytes.fromhex("0012 0003")
+PRODUCE_3 = bytes.fromhex("0000 0003")
 # The sizes of the least requests of the first two, with a null client id and empty texts, and of their least answers.
 LEAST_HEARTBEAT, HEARTBEAT_ANSWER = 18, 6
 LEAST_SYNC_GROUP, LEAST_ANSWER = 28, 10
@@ -75,6 +77,22 @@ def answer(index, size):
     ListGroups is answered as SyncGroup is with no bytes."""
     body = signed(27, 2) + (blob(size - LEAST_ANSWER, index + 100) if size >= LEAST_ANSWER else b"")
     return sized(index.to_bytes(4, "big") + body)
+
+
+def produce(index, acks, size, name=None):
+    """A Produce request with one batch of so many bytes, and a transactional id where it is named."""
+    transactional_id = signed(-1, 2) if name is None else text(name, index)
+    partition = signed(index) + blob(size, index)
+    body = transactional_id + signed(acks, 2) + signed(index) + signed(1) + text(5, index) + signed(1) + partition
+    return sized(PRODUCE_3 + own_id(index) + signed(-1, 2) + body)
+
+
+def versions(count, index):
+    """An answer to ApiVersions with so many entries: known and unknown APIs, with ranges that meet ours or don't."""
+    entries = b"".join(
+        signed(key % 40, 2) + signed(key % 7, 2) + signed((key * 5) % 13, 2) for key in range(index, index + count)
+    )
+    return sized(index.to_bytes(4, "big") + signed(0, 2) + signed(count) + entries + signed(9))
 
 
 def unserved_request(index, head, size=20):
@@ -136,6 +154,42 @@ def frames_in_one_piece(count):
 def unknown_versions_in_one_piece(count):
     yield piece("client", b"".join(unserved_request(index, API_VERSIONS_3) for index in range(count)))
     for _ in range(count):
+        yield b"emit"
+    yield from ended()
+
+
+def silent_ones(count, size):
+    """Produce requests with acks 0 in one piece, passed sixteen at a time, and a Heartbeat behind them."""
+    yield piece("client", b"".join(produce(index, 0, size, index % 9) for index in range(count)) + request(count, 24))
+    for index in range(count):
+        if index % IN_FLIGHT == IN_FLIGHT - 1:
+            yield b"emit"
+        yield b"send"
+    yield from [b"emit", b"send", b"send", b"emit"]
+    yield piece("broker", answer(count, HEARTBEAT_ANSWER))
+    yield b"emit"
+    yield from ended()
+
+
+def silent_among_others(count):
+    """Every third request is a Produce with acks 0, and one with other acks is answered in its turn."""
+    for index in range(count):
+        acks = (0, 1, -1)[index % 3]
+        yield piece("client", produce(index, acks, index % 1000, None if index % 2 else index % 50))
+        yield from [b"send", b"emit"]
+        if acks:
+            told = signed(1) + text(3, index) + signed(1) + signed(index) + signed(0, 2) + signed(index, 8) + signed(-1, 8)
+            yield piece("broker", sized(index.to_bytes(4, "big") + told + signed(0)))
+            yield b"emit"
+    yield from ended()
+
+
+def narrowed_versions(counts):
+    """ApiVersions, version 2, answered with lists of these lengths."""
+    for index, count in enumerate(counts):
+        yield piece("client", sized(API_VERSIONS_2 + own_id(index) + signed(-1, 2)))
+        yield b"send"
+        yield piece("broker", versions(count, index))
         yield b"emit"
     yield from ended()
 
@@ -365,6 +419,10 @@ def ordinary_cases():
     yield "the longest verdict", longest_verdict(LONGEST_VERDICT)
     yield "a verdict past its limit", longest_verdict(LONGEST_VERDICT + 1)
     yield "sizes drawn at random", drawn(1, 60)
+    yield "100,000 requests without a response in one piece", silent_ones(100_000, 20)
+    yield "160 requests of 1 MiB without a response", silent_ones(160, MIB)
+    yield "3,000 requests, a third of them without a response", silent_among_others(3_000)
+    yield "versions that are narrowed", narrowed_versions([0, 1, 2, 3, 40, 41, 1_000, 100_003])
 
 
 def end_cases():

@@ -1,4 +1,4 @@
-"""The configuration: the definitions that the contracts cite, the source and the page, compared.
+"""The configuration: the definitions that the contracts cite, the source, the page and the examples, compared.
 
 Use `scripts/check_config`, which calls this.
 """
@@ -17,6 +17,8 @@ READING = CONFIG / "src" / "reading.rt"
 PLAN_REFUSALS = TOP / "crates" / "virtual_cluster" / "specs" / "Refusals.antt"
 COMMANDS = TOP / "crates" / "config_answers" / "specs" / "ConfigAnswers.antt"
 PAGE = TOP / "docs" / "CONFIG.md"
+EXAMPLES = TOP / "examples" / "config"
+LARGE = "too-long"  # its example is made by `scripts/program.py`
 
 # The type that a key has, by the reader of its value.
 TYPES = {
@@ -127,6 +129,16 @@ def page_refusals():
                 yield text.strip("`")
 
 
+# The examples: one for each refusal, named by its word.
+
+
+def lacking_examples(texts):
+    for word in {text.split()[0]: None for text in texts}:
+        example = EXAMPLES / f"{word}.check"
+        if word != LARGE and not (example.is_file() and example.read_text().startswith(f"refused {word}")):
+            yield f"{EXAMPLES.name}: there is no example {word} that is refused for it"
+
+
 def differences():
     keys, page = list(defined_keys()), list(page_keys())
     defined = {key.name: key for key in keys}
@@ -146,6 +158,7 @@ def differences():
     texts, said = list(refusals()), list(page_refusals())
     if texts != said:
         yield f"{PAGE.name}: the refusals are {said}, and {texts} in the definitions"
+    yield from lacking_examples(texts)
 
 
 def main():

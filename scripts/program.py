@@ -1,5 +1,5 @@
-"""Runs the built program as a shell or another program does: with faulty words, with inputs and outputs that fail, and
-over pipes that stay open. What is wanted is said in docs/SCRIPTS.md, and the answers are those of `replay_model.py`.
+"""Runs the built program as a shell or another program does: with faulty words, with inputs, outputs and files that fail,
+and over pipes that stay open. What is wanted is said in docs/SCRIPTS.md, and the answers are those of `replay_model.py`.
 
 Use `scripts/check_program`, which calls this.
 """
@@ -34,7 +34,28 @@ EXCHANGE = [
     b"client-end",
     b"emit",
 ]
-DONE, REFUSED, USAGE_STATUS, INPUT_FAULT, OUTPUT_FAULT = range(5)
+DONE, REFUSED, USAGE_STATUS, INPUT_FAULT, OUTPUT_FAULT, NO_MEMORY, FILES_FAULT = range(7)
+CONFIG = b"""version = 1
+[[cluster]]
+name = "alpha"
+listen = "127.0.0.1"
+advertise = "p"
+port = 19092
+first_node = 0
+bootstrap = "127.0.0.1:9092"
+nodes = ["127.0.0.1:9092", "127.0.0.1:9093"]
+prefix = "alpha-"
+"""
+CONFIG_ANSWERS = {
+    b"check": b"ok 1\n",
+    b"plan": b"""cluster alpha
+prefix alpha-
+bootstrap 19092 127.0.0.1:9092
+node 0 19093 127.0.0.1:9092
+node 1 19094 127.0.0.1:9093
+""",
+}
+CONFIG_LIMIT = 1_048_576
 
 
 class Complaint(Exception):
@@ -123,6 +144,15 @@ FAULTY_WORDS = {
     "-- before": [b"--", b"replay"],
     "a word of 100,000 bytes": [b"r" * 100_000],
     "1,000 words": [b"replay"] * 1_000,
+    "check without a file": [b"check"],
+    "plan without a file": [b"plan"],
+    "check with two files": [b"check", b"/dev/null", b"/dev/null"],
+    "plan with an empty word behind": [b"plan", b"/dev/null", b""],
+    "check of -": [b"check", b"-"],
+    "plan of a word that begins with -": [b"plan", b"--help"],
+    "a file before check": [b"/dev/null", b"check"],
+    "check of a word that isn't UTF-8": [b"check", b"/dev/null\xff"],
+    "replay with a file": [b"replay", b"/dev/null"],
 }
 
 
@@ -250,6 +280,55 @@ def slow_reader(path):
 
 def pieces_of(data, size):
     return (data[at : at + size] for at in range(0, len(data), size))
+
+
+# Files.
+
+
+@contextmanager
+def path_of(data):
+    """The path of a file with these bytes."""
+    with tempfile.NamedTemporaryFile() as file:
+        file.write(data)
+        file.flush()
+        yield os.fsencode(file.name)
+
+
+def answers_a_file(path, data, answers):
+    """What each command on a configuration writes of these bytes. The input is a pipe that stays open."""
+    with path_of(data) as name, pipe() as (reader, _):
+        for word, answer in answers.items():
+            refused = answer.startswith(b"refused ")
+            expect(path, [word, name], reader, answer, REFUSED if refused else DONE)
+
+
+def answers_a_path(path, name, output, status):
+    for word in CONFIG_ANSWERS:
+        expect(path, [word, name], subprocess.DEVNULL, output, status)
+
+
+def refused_by_both(line):
+    return dict.fromkeys(CONFIG_ANSWERS, b"refused " + line + b"\n")
+
+
+def padded(size):
+    """The configuration with a comment behind it, of so many bytes."""
+    return (CONFIG + b"#").ljust(size, b"x")
+
+
+def answers_a_file_without_room(path):
+    with path_of(CONFIG) as name, open("/dev/full", "wb") as full:
+        for word in CONFIG_ANSWERS:
+            compare("status", OUTPUT_FAULT, ended(started(path, [word, name], stdin=subprocess.DEVNULL, stdout=full)))
+
+
+def answers_a_file_that_may_not_be_read(path):
+    """Root may read every file, so there is nothing to try then."""
+    if os.geteuid() == 0:
+        return
+    with path_of(CONFIG) as name:
+        os.chmod(name, 0)
+        answers_a_path(path, name, b"", FILES_FAULT)
 
 
 # Pipes that stay open.
@@ -391,6 +470,20 @@ def cases(path):
         yield f"output: a file of {limit:,} bytes at most", writes_up_to_a_limit, (path, many, limit)
     yield "output: a reader that goes away", reader_goes_away, (path,)
     yield "output: a slow reader", slow_reader, (path,)
+    yield "file: a configuration that holds", answers_a_file, (path, CONFIG, CONFIG_ANSWERS)
+    yield "file: of the limit", answers_a_file, (path, padded(CONFIG_LIMIT), CONFIG_ANSWERS)
+    too_long = refused_by_both(b"too-long")
+    yield "file: a byte too long", answers_a_file, (path, padded(CONFIG_LIMIT + 1), too_long)
+    yield "file: many times too long", answers_a_file, (path, padded(20 * CONFIG_LIMIT), too_long)
+    yield "file: one that doesn't end", answers_a_path, (path, b"/dev/zero", b"refused too-long\n", REFUSED)
+    yield "file: empty", answers_a_file, (path, b"", refused_by_both(b"missing version"))
+    yield "file: not UTF-8", answers_a_file, (path, CONFIG + b"#\xff", refused_by_both(b"not-toml"))
+    yield "file: none of that name", answers_a_path, (path, b"/nothing/there", b"", FILES_FAULT)
+    yield "file: an empty name", answers_a_path, (path, b"", b"", FILES_FAULT)
+    yield "file: a name of 5,000 bytes", answers_a_path, (path, b"n" * 5_000, b"", FILES_FAULT)
+    yield "file: a directory", answers_a_path, (path, b"/", b"", FILES_FAULT)
+    yield "file: one that may not be read", answers_a_file_that_may_not_be_read, (path,)
+    yield "file: an answer to a full device", answers_a_file_without_room, (path,)
     yield "pipe: each line is answered before the next", answers_before_the_next_line, (path,)
     yield "pipe: two lines and a half", answers_two_lines_and_a_half, (path,)
     yield "pipe: byte by byte", answers_bytes_that_come_one_by_one, (path,)

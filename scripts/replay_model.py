@@ -20,7 +20,6 @@ LONGEST_LINE = 268_435_456
 LONGEST_VERDICT = 8_388_608
 
 PRODUCE, API_VERSIONS = 0, 18
-KNOWN_API_VERSIONS = range(0, 2 + 1)
 # Error 35, and one entry: ApiVersions in versions 0 to 2 (KIP-511).
 WHICH_API_VERSIONS = bytes.fromhex("0023 00000001 0012 0000 0002")
 
@@ -84,19 +83,50 @@ class Stream:
         return self.place, size
 
 
+def body_place(frame):
+    """Where the body of a request begins, behind its client id."""
+    return 10 + max(number(frame[8:10]), 0)
+
+
+def wants_no_response(frame):
+    """Whether the request is a Produce whose acks, behind the transactional id, are 0."""
+    if number(frame[0:2]) != PRODUCE:
+        return False
+    place = body_place(frame)
+    acks = place + 2 + max(number(frame[place : place + 2]), 0)
+    return number(frame[acks : acks + 2]) == 0
+
+
+def narrowed(body, supported):
+    """A response to ApiVersions with the versions that both know: the entries that meet, in the broker's order."""
+    count = number(body[2:6])
+    behind = 6 + 6 * max(count, 0)
+    kept = []
+    for place in range(6, behind, 6):
+        key, least, greatest = (number(body[at : at + 2]) for at in range(place, place + 6, 2))
+        if key in supported:
+            least, greatest = max(least, supported[key][0]), min(greatest, supported[key][-1])
+            if least <= greatest:
+                kept.append((key, least, greatest))
+    counted = len(kept) if count >= 0 else count
+    entries = b"".join(value.to_bytes(2, "big", signed=True) for entry in kept for value in entry)
+    return body[:2] + counted.to_bytes(4, "big", signed=True) + entries + body[behind:]
+
+
 class Request:
     def __init__(self, frame):
         self.start = frame[0:4]  # key and version
         self.own_id = frame[4:8]
         self.size = len(frame)
-        self.body = None  # of its response, once it is done
+        self.is_silent = False
+        self.body = None  # of its response, once it is there
 
 
 class Connection:
-    """The rules of one connection, over what requests mean today."""
+    """The rules of one connection, over the chain of the default plan: what a broker says of its versions is narrowed."""
 
     def __init__(self):
-        self.served = {key: versions for key, versions in served_versions().items() if key != PRODUCE}
+        self.supported = served_versions()
         self.requests = []
         self.passed = 0
         self.held = 0
@@ -122,13 +152,13 @@ class Connection:
         """Why a frame is no request."""
         key, version = number(frame[0:2]), number(frame[2:4])
         which = f"request={len(self.requests)}"
-        if version not in self.served.get(key, ()):
+        if version not in self.supported.get(key, ()):
             return f"unsupported {which} key={key} version={version}"
         length = number(frame[8:10]) if len(frame) >= 10 else None
         if length is None or length < -1 or length > len(frame) - 10:
             return f"bad-head {which}"
         try:
-            read_body(frame[10 + max(length, 0) :], key, version, "request")
+            read_body(frame[body_place(frame) :], key, version, "request")
         except BadBody as bad:
             if bad.is_too_many:
                 return f"too-many-entries {which} at={bad.place}"
@@ -141,7 +171,7 @@ class Connection:
             return b"closed"
         if not self.has_room(frame):
             return b"full"
-        is_unknown = number(frame[0:2]) == API_VERSIONS and number(frame[2:4]) not in KNOWN_API_VERSIONS
+        is_unknown = number(frame[0:2]) == API_VERSIONS and number(frame[2:4]) not in self.supported[API_VERSIONS]
         refusal = None if is_unknown else self.refusal(frame)
         if refusal:
             self.cut_behind(refusal)
@@ -150,6 +180,7 @@ class Connection:
         if is_unknown:
             request.body = WHICH_API_VERSIONS
         else:
+            request.is_silent = wants_no_response(frame)
             self.messages.append((len(self.requests), frame))
         self.requests.append(request)
         self.held += request.size
@@ -181,7 +212,7 @@ class Connection:
         except BadBody:
             self.cut = request, f"broker-bad-body request={request} key={key} version={version}"
         else:
-            self.requests[request].body = body
+            self.requests[request].body = narrowed(body, self.supported) if key == API_VERSIONS else body
 
     def cut_behind(self, why):
         if not self.over and (not self.cut or len(self.requests) < self.cut[0]):
@@ -211,14 +242,24 @@ class Connection:
         if self.death or self.halt or not self.messages:
             return b"none"
         request, frame = self.messages.popleft()
-        self.unanswered.append((self.next_id, request))
+        if not self.requests[request].is_silent:
+            self.unanswered.append((self.next_id, request))
         upstream = self.next_id.to_bytes(4, "big")
         self.next_id = (self.next_id + 1) % (1 << 31)
         return b"to-broker " + hexlify(sized(frame[:4] + upstream + frame[8:]))
 
+    def is_silent_next(self):
+        """Whether the oldest request that isn't passed is below the cut and gets no response. It is done by being listed."""
+        if self.passed == len(self.requests) or (self.cut and self.passed >= self.cut[0]):
+            return False
+        return self.requests[self.passed].is_silent
+
     def emit(self):
         if not self.over:
             self.over = self.halt
+        while not self.over and self.is_silent_next():
+            self.held -= self.requests[self.passed].size
+            self.passed += 1
         if not self.over and self.cut and self.cut[0] == self.passed:
             self.over = self.cut[1]
         if self.over:

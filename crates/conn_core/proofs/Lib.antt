@@ -1,2 +1,5 @@
+pub mod Lasting
+pub mod Silence
+pub mod Heads
+pub mod Progress
 pub mod Spelled
-pub mod Requests

@@ -1,4 +1,5 @@
-pub mod Bodies
+pub mod Requests
+pub mod Chained
+pub mod Underway
 pub mod Kinds
-pub mod Waiting
 pub mod Spelled

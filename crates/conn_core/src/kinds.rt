@@ -1,13 +1,12 @@
-ghost use Rattle.std.specs.Prelude.{◌≡◌, ◌≤◌, true, false, length, IsNone, IfSome};
+ghost use Rattle.std.specs.Prelude.{◌≡◌, ◌+◌, ◌≤◌, true, false, length, IsNone, IfSome};
 ghost use Rattle.framing.specs.Heads.{has_client_id};
-ghost use Rattle.conn_core.specs.Bodies.{is_served, request_body};
+ghost use Rattle.kp_schema.specs.Messages.{is_supported};
+ghost use Rattle.conn_core.specs.Requests.{client_id_length};
 ghost use Rattle.conn_core.specs.Kinds.{IsKind};
 
 use framing::start;
 use kp_schema::{Dir, fields};
 use wire_types::Reader;
-
-const PRODUCE: i16 = 0;
 
 const API_VERSIONS: i16 = 18;
 
@@ -16,18 +15,18 @@ const START: usize = 8;
 
 // What a client's frame is, by its head.
 #[derive(Clone, Copy, Debug, PartialEq, Eq)]
-pub(crate) enum FrameKind<'a> {
-    // A request, if its body can be read.
+pub(crate) enum FrameKind {
+    // A request, if its body can be read, which begins at this place.
     Headed {
         key: i16,
         version: i16,
-        body: &'a [u8],
+        body_at: usize,
     },
     // A request for ApiVersions in a version that isn't known.
     ToldVersions {
         correlation_id: i32,
     },
-    // No request: its API or version isn't served.
+    // No request: its API or version isn't supported.
     Unsupported {
         key: i16,
         version: i16,
@@ -36,43 +35,46 @@ pub(crate) enum FrameKind<'a> {
     BadHead,
 }
 
-pub(crate) fn kind_of(frame: &[u8]) -> FrameKind<'_>
+pub(crate) fn kind_of(frame: &[u8]) -> FrameKind
     requires { 8 ≤ length frame.now }
     ensures { IsKind frame.now result }
 {
     let Some((key, version, correlation_id)) = start(frame) else {
         return FrameKind::BadHead;
     };
-    if !is_served(key, version) {
+    if !is_supported(key, version) {
         return if key == API_VERSIONS {
             FrameKind::ToldVersions { correlation_id }
         } else {
             FrameKind::Unsupported { key, version }
         };
     }
-    match body_of(frame) {
-        Some(body) => FrameKind::Headed { key, version, body },
+    match body_place(frame) {
+        Some(body_at) => FrameKind::Headed {
+            key,
+            version,
+            body_at,
+        },
         None => FrameKind::BadHead,
     }
 }
 
-// What follows the client id, if that is spelled.
-fn body_of(frame: &[u8]) -> Option<&[u8]>
+// Where the client id ends, if it is spelled.
+fn body_place(frame: &[u8]) -> Option<usize>
     requires { 8 ≤ length frame.now }
-    ensures some { IfSome result (λ body. (has_client_id frame.now ≡ true) × (body.now ≡ request_body frame.now)) }
+    ensures some { IfSome result (λ place. (has_client_id frame.now ≡ true) × (place ≡ 8 + client_id_length frame.now) × (place ≤ length frame.now)) }
     ensures none { IsNone result → has_client_id frame.now ≡ false }
 {
-    let rest = frame.split_at(START).1;
-    let mut reader = Reader::new(rest);
+    let mut reader = Reader::new(frame.split_at(START).1);
     match reader.string() {
-        Ok(_) => Some(rest.split_at(reader.at()).1),
+        Ok(_) => Some(START + reader.at()),
         Err(_) => None,
     }
 }
 
-// This version of this API is served.
-fn is_served(key: i16, version: i16) -> bool
-    ensures { result ≡ is_served key version }
+// This version of this API is supported.
+fn is_supported(key: i16, version: i16) -> bool
+    ensures { result ≡ is_supported key version }
 {
-    fields(key, version, Dir::Request).is_some() && key != PRODUCE
+    fields(key, version, Dir::Request).is_some()
 }

@@ -1,16 +1,18 @@
-ghost use Rattle.std.specs.Prelude.{ℕ};
+ghost use Rattle.std.specs.Prelude.{ℕ, List};
+ghost use Rattle.filter_core.specs.Decision.{Turn};
 ghost use Rattle.conn_rules.specs.Meaning.{Lasting};
-ghost use Rattle.conn_core.specs.Bodies.{bodies};
-ghost use Rattle.conn_core.specs.Spelled.{RequestsAreSpelled, AnswersAreSpelled};
+ghost use Rattle.conn_core.specs.Chained.{chained};
+ghost use Rattle.conn_core.specs.Spelled.{PassesAsItCame, AnswersPassAsTheyCame};
 
-/// What the law of order asks: a response stays as it is, once it is there.
-pub fn bodies_law()
-    ensures { (limit : ℕ) → Lasting (bodies limit) }
+/// What the law of order asks, of every chain: a response stays as it is, once it is there. A silent request gets none,
+/// and each other response carries its request's correlation id.
+pub fn chain_law()
+    ensures { (chain : List Turn) (limit : ℕ) → Lasting (chained chain limit) }
 {}
 
-/// What goes on is what was read: a request's bytes are its start, its client id and the spelling of its items, and an
-/// answer's body is the spelling of its items.
+/// What a chain passes unchanged goes on byte by byte as it came: a request but for its correlation id, and the body of
+/// an answer.
 pub fn spelled_law()
-    ensures requests { RequestsAreSpelled }
-    ensures answers { AnswersAreSpelled }
+    ensures requests { PassesAsItCame }
+    ensures answers { AnswersPassAsTheyCame }
 {}

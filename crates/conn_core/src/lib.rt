@@ -1,28 +1,35 @@
-//! One proxied connection without its streams, for what requests mean today: their bodies are read, and pass as they came.
+//! One proxied connection without its streams, whose requests pass through a chain of filters.
 //!
 //! ```text
-//!   client frame --take--> Bodies::begin: sent to the broker | told the known versions | no request
-//!   broker frame --answer--> Bodies::unreadable: the body can be read | it ends the connection
-//!   client <--emit-- response <--Bodies::go_on-- the body of the broker's answer
+//!   client frame --take--> Chain::begin: read, and given to the chain | told the known versions | no request
+//!   broker frame --answer--> Chain::unreadable: the body can be read | it ends the connection
+//!                            Chain::go_on: the chain is given the answer --> one more send | a hold | the response
+//!   client <--emit-- the response behind the client's own correlation id
 //! ```
 //!
-//! [`Bodies`] is a service of `serving`, whose [`Core`] does at each event what the machine of `conn_rules` does. This
+//! [`Chain`] is a service of `serving`, whose [`Core`] does at each event what the machine of `conn_rules` does. This
 //! crate reads no socket and cuts no stream.
 #![tactic(auto)]
 
-mod bodies;
+mod acks;
+mod chain;
+mod chain_run;
 mod connection;
+mod envelope;
 mod kinds;
 mod laws;
+mod opening;
 #[cfg(test)]
 mod steady;
+mod telling;
 #[cfg(test)]
 mod tests;
 mod unreadable;
 
-pub use bodies::Bodies;
+pub use chain::Chain;
+pub use chain_run::ChainRun;
 pub use conn_rules::{
     AnswerFault, CompleteFault, Connection, Emit, Fault, Look, TakeFault, Ticket,
 };
 pub use connection::Core;
-pub use laws::{bodies_law, spelled_law};
+pub use laws::{chain_law, spelled_law};

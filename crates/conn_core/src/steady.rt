@@ -2,6 +2,7 @@
 // times these tests by their names.
 use crate::{Connection, Core, Emit};
 use bytes::Bytes;
+use filter_probes::Probe;
 use kp_edge::Steps;
 use std::alloc::{AllocError, Global};
 use std::test::Fail;
@@ -25,7 +26,7 @@ fn answer(alloc: Global, number: u32) -> Result<Bytes, AllocError> {
 }
 
 // The next request finds room, and goes out.
-fn is_taken(alloc: Global, core: &mut Core, id: u32) -> Result<bool, AllocError> {
+fn is_taken(alloc: Global, core: &mut Core<Probe>, id: u32) -> Result<bool, AllocError> {
     let frame = request(alloc, id)?;
     Ok(
         frame.len() >= 8
@@ -35,7 +36,12 @@ fn is_taken(alloc: Global, core: &mut Core, id: u32) -> Result<bool, AllocError>
 }
 
 // The oldest is answered, and its response has the client's id.
-fn is_answered(alloc: Global, core: &mut Core, number: u32, own: u32) -> Result<bool, AllocError> {
+fn is_answered(
+    alloc: Global,
+    core: &mut Core<Probe>,
+    number: u32,
+    own: u32,
+) -> Result<bool, AllocError> {
     let frame = answer(alloc, number)?;
     if frame.len() < 4 || core.answer(frame, &mut Steps::<Counted>::new()).is_err() {
         return Ok(false);
@@ -50,7 +56,7 @@ fn is_answered(alloc: Global, core: &mut Core, number: u32, own: u32) -> Result<
 
 // The first request that went otherwise, of so many. Their own ids fall from 2^32 - 1.
 fn wrong_request(alloc: Global, count: u32) -> Result<Option<u32>, AllocError> {
-    let mut core = Core::new(alloc, IN_FLIGHT);
+    let mut core = Core::new(alloc, Vec::<Probe>::new(alloc), IN_FLIGHT);
     for number in 0..count {
         if let Some(oldest) = number.checked_sub(IN_FLIGHT) {
             if !is_answered(alloc, &mut core, oldest, u32::MAX - oldest)? {

@@ -1,19 +1,27 @@
 // What no clause says: that memory suffices, and the bytes of whole exchanges. Most frames are those of the protocol
 // guide's Heartbeat, version 0.
 use self::by_bodies::{BAD_ANSWERS, BAD_BODIES, READ};
+use self::by_chains::{ASKED_ASIDE, CHANGED, SHUT};
 use self::by_ends::{ENDS, FAILED, VERDICTS};
+use self::by_holds::HOLDS;
 use self::by_requests::{ANSWERS, IN_ORDER, NO_REQUESTS, TOLD};
 use self::by_room::{AT_ONE, AT_SIXTY_FOUR, LOOKS};
+use self::by_silence::SILENT;
 use crate::{AnswerFault, CompleteFault, Connection, Core, Emit, Fault, Look, TakeFault, Ticket};
 use bytes::Bytes;
+use filter_probes::Probe;
 use kp_edge::{Blob, End, Steps};
 use std::alloc::{AllocError, Global};
 use std::test::Fail;
 
 mod by_bodies;
+mod by_chains;
 mod by_ends;
+mod by_holds;
 mod by_requests;
 mod by_room;
+mod by_silence;
+mod by_sizes;
 
 #[derive(Clone, Copy)]
 enum Line {
@@ -23,7 +31,8 @@ enum Line {
     // a request for ListGroups, whose body is empty: its client id has this length, and behind it stand so many bytes
     ClientId(i16, u32),
     Broker(&'static [u8]),
-    Verdict(&'static [u8]),
+    // for this request and this number of the ask
+    Verdict(u64, u32, &'static [u8]),
     ClientEnd(u64),
     BrokerEnd(u64),
     Fails(Fault),
@@ -44,7 +53,7 @@ enum Told<B> {
     Later,
     Over(End),
     Looks(Look),
-    Ticket(u64, u32),
+    Ticket(u64, u32, B),
     NoMemory,
 }
 
@@ -119,10 +128,13 @@ fn emitted(emit: Emit) -> Got {
     }
 }
 
-fn picked(ticket: Option<Ticket>) -> Got {
+fn picked(alloc: Global, ticket: Option<Ticket>) -> Result<Got, AllocError> {
     match ticket {
-        Some(ticket) => Told::Ticket(ticket.request, ticket.index),
-        None => Told::Nothing,
+        Some(ticket) => {
+            let key = Bytes::copy_from_slice(alloc, ticket.key.as_slice())?;
+            Ok(Told::Ticket(ticket.request, ticket.index, key))
+        }
+        None => Ok(Told::Nothing),
     }
 }
 
@@ -135,6 +147,9 @@ fn is_wanted(got: &Got, want: Want) -> bool {
             *count == many && *held == size && frame.as_slice() == wanted
         }
         (Told::Bytes(bytes), Told::Bytes(wanted)) => bytes.as_slice() == wanted,
+        (Told::Ticket(request, index, key), Told::Ticket(whose, which, wanted)) => {
+            *request == whose && *index == which && key.as_slice() == wanted
+        }
         (Told::Nothing, Told::Nothing) => true,
         (Told::Later, Told::Later) => true,
         (Told::Over(why), Told::Over(wanted)) => *why == wanted,
@@ -143,7 +158,7 @@ fn is_wanted(got: &Got, want: Want) -> bool {
     }
 }
 
-fn takes(core: &mut Core, frame: Bytes) -> Got {
+fn takes(core: &mut Core<Probe>, frame: Bytes) -> Got {
     if frame.len() < 8 {
         return Told::Nothing;
     }
@@ -151,7 +166,12 @@ fn takes(core: &mut Core, frame: Bytes) -> Got {
 }
 
 // The first of so many frames that isn't taken, or the last.
-fn takes_many(alloc: Global, core: &mut Core, times: u32, frame: &[u8]) -> Result<Got, AllocError> {
+fn takes_many(
+    alloc: Global,
+    core: &mut Core<Probe>,
+    times: u32,
+    frame: &[u8],
+) -> Result<Got, AllocError> {
     let mut got = Told::Nothing;
     for _ in 0..times {
         got = takes(core, Bytes::copy_from_slice(alloc, frame)?);
@@ -173,7 +193,7 @@ fn with_client_id(alloc: Global, length: i16, bytes: u32) -> Result<Bytes, Alloc
 }
 
 // What the core answers to this line.
-fn reply_to(alloc: Global, core: &mut Core, line: Line) -> Result<Got, AllocError> {
+fn reply_to(alloc: Global, core: &mut Core<Probe>, line: Line) -> Result<Got, AllocError> {
     match line {
         Line::Client(bytes) => Ok(takes(core, Bytes::copy_from_slice(alloc, bytes)?)),
         Line::Clients(times, bytes) => takes_many(alloc, core, times, bytes),
@@ -185,11 +205,11 @@ fn reply_to(alloc: Global, core: &mut Core, line: Line) -> Result<Got, AllocErro
             }
             Ok(answered(core.answer(frame, &mut Steps::<Counted>::new())))
         }
-        Line::Verdict(bytes) => {
+        Line::Verdict(request, index, bytes) => {
             let verdict = Blob::from_vec(Vec::from_slice(alloc, bytes)?);
             completed(
                 alloc,
-                core.complete(0, 0, verdict, &mut Steps::<Counted>::new()),
+                core.complete(request, index, verdict, &mut Steps::<Counted>::new()),
             )
         }
         Line::ClientEnd(rest) => {
@@ -206,21 +226,40 @@ fn reply_to(alloc: Global, core: &mut Core, line: Line) -> Result<Got, AllocErro
         }
         Line::Send => Ok(sent(core.send())),
         Line::Emit => Ok(emitted(core.emit())),
-        Line::Pick => Ok(picked(core.pick())),
+        Line::Pick => picked(alloc, core.pick()),
         Line::Look => Ok(Told::Looks(core.look())),
     }
 }
 
-// The first line that a core with this limit answers otherwise: its number, and what was got.
+// A filter of a chain: it asks this so often, or has these two turns.
+#[derive(Clone, Copy)]
+enum Filters {
+    Asks(u8, u8),
+    Turns(u8),
+}
+
+fn chain_of(alloc: Global, filters: &[Filters]) -> Result<Vec<Probe>, AllocError> {
+    let mut chain = Vec::new(alloc);
+    for filter in filters {
+        chain.push(match filter {
+            Filters::Asks(what, times) => Probe::asking(*what, *times),
+            Filters::Turns(what) => Probe::two_turns(*what),
+        })?;
+    }
+    Ok(chain)
+}
+
+// The first line that a core with this chain and this limit answers otherwise: its number, and what was got.
 fn wrong_line(
     alloc: Global,
+    chain: &[Filters],
     in_flight: u32,
     lines: &[(Line, Want)],
 ) -> Result<Option<(usize, Got)>, AllocError> {
     if in_flight == 0 || in_flight > 64 {
         return Ok(Some((0, Told::Nothing)));
     }
-    let mut core = Core::new(alloc, in_flight);
+    let mut core = Core::new(alloc, chain_of(alloc, chain)?, in_flight);
     for (i, (line, want)) in lines.iter().enumerate() {
         let got = reply_to(alloc, &mut core, *line)?;
         if !is_wanted(&got, *want) {
@@ -230,14 +269,14 @@ fn wrong_line(
     Ok(None)
 }
 
-// The first script of the table that is answered otherwise: its name, the line, what was wanted and what was got.
+// The first script of the table that a core without filters answers otherwise: its name, the line, what was wanted and what was got.
 fn wrong_script(
     alloc: Global,
     in_flight: u32,
     scripts: &[(&'static str, &[(Line, Want)])],
 ) -> Result<Option<(&'static str, usize, Option<Want>, Got)>, AllocError> {
     for (name, lines) in scripts {
-        if let Some((i, got)) = wrong_line(alloc, in_flight, lines)? {
+        if let Some((i, got)) = wrong_line(alloc, &[], in_flight, lines)? {
             return Ok(Some((*name, i, lines.get(i).map(|line| line.1), got)));
         }
     }
@@ -269,6 +308,19 @@ fn scripts_are_answered(rt: HostRuntime) -> Result<(), Fail> {
             false,
             "one in flight, {name}, line {i}: wanted {want:?}, got {got:?}"
         );
+    }
+    Ok(())
+}
+
+#[test]
+fn chains_are_answered(rt: HostRuntime) -> Result<(), Fail> {
+    for scripts in [CHANGED, SHUT, ASKED_ASIDE, HOLDS, SILENT] {
+        for (name, chain, lines) in scripts {
+            if let Some((i, got)) = wrong_line(rt.alloc(), chain, 64, lines)? {
+                let want = lines.get(i).map(|line| line.1);
+                assert!(rt; false, "{name}, line {i}: wanted {want:?}, got {got:?}");
+            }
+        }
     }
     Ok(())
 }

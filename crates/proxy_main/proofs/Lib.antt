@@ -11,3 +11,4 @@ pub mod Counting
 pub mod SoFar
 pub mod Word
 pub mod Stepping
+pub mod FileAnswering

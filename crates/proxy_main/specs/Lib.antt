@@ -6,3 +6,5 @@ pub mod Output
 pub mod Progress
 pub mod Written
 pub mod Stops
+pub mod FileAnswers
+pub mod DefaultPlan

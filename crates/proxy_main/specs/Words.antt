@@ -7,13 +7,9 @@ use Rattle.proxy_main.specs.declared.status.Status.TheVariants.{Done, Refused, U
 abbrev pub usage : List ℕ
 usage = codes "usage: kproxy replay [CONFIG CLUSTER] | check CONFIG | plan CONFIG | serve CONFIG | broker HOST PORT | load SEED N" ++ 10 ∷ []
 
--- the one command of today: the lone word `replay`
+-- the command on a script: the lone word `replay`
 abbrev pub IsReplay : List (List ℕ) → Type 0
 IsReplay words = words ≡ codes "replay" ∷ []
-
--- how many requests may be in flight in `replay`
-abbrev pub most_in_flight : ℕ
-most_in_flight = 16
 
 abbrev pub status_number : Status → ℕ
 status_number Done = 0

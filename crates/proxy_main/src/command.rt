@@ -1,16 +1,18 @@
 // The commands.
 ghost use Rattle.std.specs.Prelude.{◌≡◌, ◌≤◌, ◌↔◌, ℕ, List, [], ◌++◌, Some, map, string_bytes, IsTrue};
 ghost use Rattle.kp_edge.specs.Counts.{BothCounted, Counted};
-ghost use Rattle.conn_core.specs.Bodies.{bodies};
-ghost use Rattle.proxy_main.specs.Words.{IsReplay, usage, most_in_flight};
+ghost use Rattle.config_answers.specs.declared.asked.Asked.{Asked};
+ghost use Rattle.proxy_main.specs.Words.{IsReplay, usage};
+ghost use Rattle.proxy_main.specs.DefaultPlan.{default_meaning};
+ghost use Rattle.proxy_main.specs.FileAnswers.{AnswersFile, IsFileCommand, IsNoFileCommand};
 ghost use Rattle.proxy_main.specs.Output.{Appends, AppendsFront};
 ghost use Rattle.proxy_main.specs.Scripts.{ReadSoFar, piece_limit};
 ghost use Rattle.proxy_main.specs.Replayed.{Replays, RefusesWords, IsStatusOfReplay};
 
+use crate::default_plan::replay_default;
+use crate::file_answer::{answer_file, file_command};
 use crate::output::write_all;
-use crate::script::replay;
 use crate::status::Status;
-use conn_core::{Core, bodies_law};
 use kp_edge::{Failed, Files, Sink, Source, Steps};
 use std::alloc::Global;
 
@@ -18,46 +20,49 @@ use std::alloc::Global;
 const USAGE: &[u8] =
     b"usage: kproxy replay [CONFIG CLUSTER] | check CONFIG | plan CONFIG | serve CONFIG | broker HOST PORT | load SEED N\n";
 
-// How many requests may be in flight.
-const IN_FLIGHT: u32 = 16;
-
-/// Does what the words say, and ends with the status that says how. The word of today is `replay`: it runs
-/// the script on `input` over a connection and writes an answer line for each line. What a script means is
-/// told in docs/SCRIPTS.md. It waits for nothing but its input and its output.
+/// Does what the words say, and ends with the status that says how. The word `replay` runs the script on `input`
+/// over a connection and writes an answer line for each line. What a script means is told in docs/SCRIPTS.md.
+/// `check` and `plan`, each before the name of a file, write what is told of a configuration in docs/CONFIG.md.
+/// It waits for nothing but its input, its output and the read of that file.
 pub fn run_command<I: Source, O: Sink, F: Files, L>(
     alloc: Global,
     words: &[String],
     input: &mut I,
     out: &mut O,
-    _files: &mut F,
+    files: &mut F,
     _steps: &mut Steps<L>,
 ) -> Status
     // The status and what is written have their cause in the script, where the input tells it. The output took
     // that text, where it tells what it takes.
     ensures replay { IsReplay (map string_bytes words.now) → (script : List ℕ) → I.coming input.old ≡ Some script
-        → (written : List ℕ) × Appends (O.taken out.old) written (O.taken out.new) × Replays (bodies most_in_flight) script (I.coming input.new) written result }
+        → (written : List ℕ) × Appends (O.taken out.old) written (O.taken out.new) × Replays default_meaning script (I.coming input.new) written result }
     ensures statuses { IsReplay (map string_bytes words.now) → IsStatusOfReplay result }
 
     // At most the limit of a script and one piece of it are read. At status 0 the whole script was.
     ensures so_far { IsReplay (map string_bytes words.now) → (script : List ℕ) → I.coming input.old ≡ Some script → ReadSoFar piece_limit script (I.coming input.new) }
     ensures read { IsReplay (map string_bytes words.now) → result ≡ Status.Done → (script : List ℕ) → I.coming input.old ≡ Some script → I.coming input.new ≡ Some [] }
 
-    // Other words are faulty, and nothing is read for them.
-    ensures words { ¬ IsReplay (map string_bytes words.now) → RefusesWords result (O.taken out.old) (O.taken out.new) }
+    // `check` and `plan` answer the whole file, as far as the files tell what it holds.
+    ensures file { (asked : Asked) (name : List ℕ) → IsFileCommand (map string_bytes words.now) asked name → AnswersFile asked (F.content files.old name) (O.taken out.old) (O.taken out.new) result }
+
+    // Other words are faulty. The input is read for `replay` alone, and a file for `check` and `plan`.
+    ensures words { ¬ IsReplay (map string_bytes words.now) → IsNoFileCommand (map string_bytes words.now) → RefusesWords result (O.taken out.old) (O.taken out.new) }
     ensures unread { ¬ IsReplay (map string_bytes words.now) → input.new ≡ input.old }
+    ensures unopened { IsNoFileCommand (map string_bytes words.now) → files.new ≡ files.old }
 
     // A fault has its cause in this call: the input's, the output's and the files' count rose where the status
     // names their fault, and else stayed.
     ensures faults { BothCounted (result ≡ Status.InputFault) (result ≡ Status.OutputFault) (I.faults input.old) (I.faults input.new) (O.faults out.old) (O.faults out.new) }
-    ensures files { Counted (result ≡ Status.FilesFault) (F.faults _files.old) (F.faults _files.new) }
+    ensures files { Counted (result ≡ Status.FilesFault) (F.faults files.old) (F.faults files.new) }
 
     // What the files tell stays, and the counter of steps never falls.
-    ensures content { (name : List ℕ) → F.content _files.new name ≡ F.content _files.old name }
+    ensures content { (name : List ℕ) → F.content files.new name ≡ F.content files.old name }
     ensures steps { _steps.old ≤ _steps.new }
 {
     if is_replay(words) {
-        bodies_law();
-        replay(alloc, Core::new(alloc, IN_FLIGHT), input, out)
+        replay_default(alloc, input, out)
+    } else if let Some(command) = file_command(words) {
+        answer_file(alloc, &command, out, files)
     } else {
         refuse_words(out)
     }

@@ -9,6 +9,8 @@
 
 mod command;
 mod conclude;
+mod default_plan;
+mod file_answer;
 mod lines;
 mod output;
 mod perform;

@@ -1,6 +1,7 @@
 use self::by_bodies::BODIES;
 use self::by_ends::{ANSWERS, BROKER_ENDS, FAULTS, HOLDS, ORDER, SHORTEST};
 use self::by_room::ROOM;
+use self::by_silence::SILENT;
 use self::by_streams::{BROKER_SIZES, CLIENT_ENDS, CLIENT_SIZES, HEADS, PIECES, VERSIONS};
 use super::*;
 use kp_edge::{Blob, MemFiles, MemSink, MemSource, Steps};
@@ -9,7 +10,9 @@ use std::test::*;
 
 mod by_bodies;
 mod by_ends;
+mod by_files;
 mod by_room;
+mod by_silence;
 mod by_streams;
 
 // A script that is read to its end, in parts. Each line stands before its answer.
@@ -328,6 +331,13 @@ fn bodies_are_read(rt: HostRuntime) -> Result<(), Fail> {
 }
 
 #[test]
+fn silent_requests(rt: HostRuntime) -> Result<(), Fail> {
+    let other = first_other(rt.alloc(), SILENT)?;
+    assert_eq!(rt; other.as_str(), "");
+    Ok(())
+}
+
+#[test]
 fn the_broker_ends(rt: HostRuntime) -> Result<(), Fail> {
     let other = first_other(rt.alloc(), BROKER_ENDS)?;
     assert_eq!(rt; other.as_str(), "");
@@ -469,7 +479,7 @@ fn other_words_are_told_the_usage(rt: HostRuntime) -> Result<(), Fail> {
         &["replay "],
         &["replay", "replay"],
         &["replay", "config.ini", "0"],
-        &["check", "config.ini"],
+        &["check", "replay", "0"],
         &["play"],
     ];
     for (at, words) in table.into_iter().enumerate() {

@@ -241,10 +241,10 @@ pub(crate) const VERDICTS: &[(&str, &[(Line, Want)])] = &[
         &[
             (Line::Client(H7), Told::Fine),
             (Line::Pick, Told::Nothing),
-            (Line::Verdict(b"yes"), Told::Back(b"yes")),
+            (Line::Verdict(0, 0, b"yes"), Told::Back(b"yes")),
             (Line::Send, Told::Bytes(H0_SIZED)),
             (Line::Broker(A0), Told::Fine),
-            (Line::Verdict(b""), Told::Back(b"")),
+            (Line::Verdict(0, 0, b""), Told::Back(b"")),
             (Line::Pick, Told::Nothing),
             (Line::Emit, Told::Bytes(A7_SIZED)),
         ],
@@ -254,7 +254,7 @@ pub(crate) const VERDICTS: &[(&str, &[(Line, Want)])] = &[
         &[
             (Line::ClientEnd(0), Told::Fine),
             (Line::Emit, Told::Over(End::Ended)),
-            (Line::Verdict(b"yes"), Told::Back(b"yes")),
+            (Line::Verdict(0, 0, b"yes"), Told::Back(b"yes")),
             (Line::Pick, Told::Nothing),
         ],
     ),

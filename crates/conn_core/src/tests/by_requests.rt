@@ -171,15 +171,15 @@ pub(crate) const NO_REQUESTS: &[(&str, &[(Line, Want)])] = &[
         ],
     ),
     (
-        "Produce",
+        "Produce, in a version before those that are supported",
         &[
-            (Line::Client(b"\0\0\0\x03\0\0\0\x07\xff\xff"), Told::Fine),
+            (Line::Client(b"\0\0\0\x02\0\0\0\x07\xff\xff"), Told::Fine),
             (
                 Line::Emit,
                 Told::Over(End::UnsupportedApi {
                     request: 0,
                     key: 0,
-                    version: 3,
+                    version: 2,
                 }),
             ),
         ],

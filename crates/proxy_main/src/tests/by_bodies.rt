@@ -69,13 +69,13 @@ pub(crate) const BODIES: &[Exchange] = &[
         ],
     },
     Exchange {
-        name: "the answer to a known ApiVersions passes as it came",
+        name: "the answer to a known ApiVersions keeps what both know",
         parts: &[
             "
                 client 0000000a0012000000000002ffff -> ok
                 send -> to-broker 0000000a0012000000000000ffff
                 broker 0000001c00000000000000000003000000000009003c000000000001000c000d -> ok
-                emit -> to-client 0000001c00000002000000000003000000000009003c000000000001000c000d
+                emit -> to-client 0000001000000002000000000001000000030008
             ",
         ],
     },

@@ -321,12 +321,12 @@ pub(crate) const HEADS: &[Exchange] = &[
         ],
     },
     Exchange {
-        name: "Produce",
+        name: "Produce, in a version before those that are supported",
         parts: &[
             "
-                client 0000000a0000000300000007ffff -> ok
+                client 0000000a0000000200000007ffff -> ok
                 send -> none
-                emit -> over unsupported request=0 key=0 version=3
+                emit -> over unsupported request=0 key=0 version=2
             ",
         ],
     },

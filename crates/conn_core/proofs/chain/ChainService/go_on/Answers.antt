@@ -1,0 +1,16 @@
+use Rattle.std.proofs.Common.{List, ◌++◌, ◌∷◌, [], subst}
+use Rattle.tree_spelling.specs.Body.{Contents}
+use Rattle.filter_chain.specs.declared.outside.Outside.{Outside}
+use Rattle.filter_chain.specs.RunStates.{RunsFor, IsState}
+use Rattle.serving.specs.Services.{outside_of}
+use Rattle.conn_core.proofs.Progress.{goes_on, on_ok}
+use Rattle.conn_core.proofs.chain.ChainService.go_on.Goals as goal
+
+pub returns-clause-right : goal.returns-clause-right
+returns-clause-right g c =
+    let turn = g.F.Filter.turn in
+    let stands = g.F.Filter.stands in
+    let came = c.in_ok-outside.outside in
+    let polled = subst (λ fs. (request : Contents) (given : List Outside) → RunsFor turn stands fs request given c.args.run.run → IsState turn stands fs request (given ++ came ∷ []) c.in_ok-state.state) c.as_slice.ensures.value c.in_ok-state.ensures.state in
+    on_ok c.tell.result (λ progress told frame before runs.
+    goes_on turn stands c.args.self.now.filters.items frame c.args.run before (outside_of c.args.given) came c.in_ok-state.state progress runs (c.in_ok-outside.ensures runs.question runs.asked) polled (told frame)) c.tell.ensures.told
