@@ -37,8 +37,12 @@ module _ (way : List Outside → Course) (g : Input → List Outside → Course)
     pub back_with : (more : List Outside) → way (u.used ++ more) ≡ record { fate = Back x; left = more; turns = (way xs).turns }
     back_with more = u.whatever_follows (subst IsSettled (sym back) tt) more ∙ ap (λ f. record { fate = f; left = more; turns = (way xs).turns }) back
 
-  pub fit_left : (xs : List Outside) (u : UsesFront way xs) (x : Input) → (way xs).fate ≡ Back x → Fit (λ ys. gives g (way ys)) xs → Fit (g x) (way xs).left
-  fit_left xs u x back fit before y after question e awaits = fit (u.used ++ before) y after question (u.front ∙ ap (λ l. u.used ++ l) e ∙ sym (append_assoc u.used before (y ∷ after))) (ap (λ c. (gives g c).fate) (back_with xs u x back before) ∙ awaits)
+    pub fit_used : (left : List Outside) → Fit (λ ys. gives g (way ys)) (u.used ++ left) → Fit (g x) left
+    fit_used left fit before y after question e awaits =
+        fit (u.used ++ before) y after question (ap (λ l. u.used ++ l) e ∙ sym (append_assoc u.used before (y ∷ after))) (ap (λ (c : Course). (gives g c).fate) (back_with before) ∙ awaits)
+
+    pub fit_left : Fit (λ ys. gives g (way ys)) xs → Fit (g x) (way xs).left
+    fit_left fit = fit_used (way xs).left (subst (Fit (λ ys. gives g (way ys))) u.front fit)
 
 -- ---- a whole request
 

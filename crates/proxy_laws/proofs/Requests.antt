@@ -1,5 +1,5 @@
 -- What becomes of a whole request under a chain of lawful filters.
-use Rattle.std.proofs.Common.{◌≡◌, subst, ℕ, ◌<◌, Bool, true, false, if◌then◌else◌, nat_lt, List, [], ◌∷◌, length, Option, arith}
+use Rattle.std.proofs.Common.{◌≡◌, subst, sym, ℕ, ◌<◌, Bool, true, false, if◌then◌else◌, nat_lt, List, [], ◌∷◌, ◌++◌, length, Option, arith}
 use Rattle.std.specs.List.{All, AllByRecursion}
 use Rattle.std.proofs.lemmas.List.Elements.{All-tail}
 use Rattle.tree_spelling.specs.Body.{Contents}
@@ -16,8 +16,9 @@ use Rattle.filter_chain.specs.declared.state.ShutCause.TheVariants as cause
 use Rattle.filter_chain.specs.Chain.{Fate, Back, Awaits, Closes, Endless}
 use Rattle.filter_chain.specs.Outcomes.{Needs, Completed, Shuts, NeverEnds, outcome_after, course}
 use Rattle.proxy_laws.specs.Coming.{MayHaveCome}
-use Rattle.proxy_laws.specs.LawfulChains.{CompletesWithItsOwn, IsNeedOf, NeedsWholeMessages, ComesToAnEnd, ShutsByItsOwn, HasFewTurns, turns_within}
+use Rattle.proxy_laws.specs.LawfulChains.{CompletesWithItsOwn, IsNeedOf, NeedsWholeMessages, GoesOnOnce, ComesToAnEnd, ShutsByItsOwn, HasFewTurns, turns_within}
 use Rattle.proxy_laws.proofs.Fitting.{come_fit}
+use Rattle.proxy_laws.proofs.Once.{IsMainAsk, AwaitsMain, once_way}
 use Rattle.proxy_laws.proofs.Sound.{IsGood, IsGoodFate, IsAskedFor, coming_answers, good_way}
 
 pub every_one : {X : Type 0} (P : X → Type 0) (xs : List X) → ((x : X) → P x) → All P xs
@@ -95,3 +96,16 @@ module _ (chain : List Turn) (lawful : All IsLawful chain) where
 
   pub few_turns : HasFewTurns chain
   few_turns request given whole come = (is_good request given whole come).few
+
+-- ---- a request goes on once
+
+awaits_main : (n : ℕ) (f : Fate) (message : Contents) → outcome_after n f ≡ Needs (ask.Broker message true) → AwaitsMain f
+awaits_main n (Back x) message e = absurd cc
+awaits_main n (Awaits question) message e = subst IsMainAsk (sym (asks_this (nat_lt n ask_limit) question (ask.Broker message true) e)) tt
+awaits_main n (Closes filter reason) message e = absurd cc
+awaits_main n (Endless filter) message e = absurd cc
+
+pub goes_on_once : (chain : List Turn) → All IsLawful chain → GoesOnOnce chain
+goes_on_once chain lawful request given x more message again whole come first second =
+    once_way chain (one_by_one IsLawful chain lawful) 0 (length chain) (omega arith) request true (whole, λ e. absurd (let z : true ≡ false = e in cc)) given x more (come_fit chain request (given ++ x ∷ more) come)
+    (awaits_main (length given) (course chain request given).fate message first) (awaits_main (length (given ++ x ∷ more)) (course chain request (given ++ x ∷ more)).fate again second)

@@ -29,7 +29,7 @@ use Rattle.proxy_laws.proofs.Fitting.{Fit, fit_alike, fit_nearer, fit_left}
 pub sent_on_both : (a b c : Contents) → IsSentOnAs a b → IsSentOnAs b c → IsSentOnAs a c
 sent_on_both a b c h k = record { is_request = k.is_request; same_key = k.same_key ∙ h.same_key; same_version = k.same_version ∙ h.same_version; same_acks = k.same_acks ∙ h.same_acks }
 
-answered_too : (a b : Contents) → IsSentOnAs a b → WillBeAnswered a → WillBeAnswered b
+pub answered_too : (a b : Contents) → IsSentOnAs a b → WillBeAnswered a → WillBeAnswered b
 answered_too a b h w =
     record {
       is_request = h.is_request;
@@ -114,30 +114,30 @@ good_broker end m false [] may fit = record { fate = may.1 refl; few = omega ari
 -- ---- one filter
 
 -- what became of the message of a decision, for the sake of the request that it was made on
-abbrev IsInner : Contents → Bool → ℕ → Decision → Fate → Type 0
+abbrev pub IsInner : Contents → Bool → ℕ → Decision → Fate → Type 0
 IsInner m main end D (Back x) = MayFollow D x
 IsInner m main end D (Awaits question) = IsAskedFor m main end question
 IsInner m main end D (Closes filter reason) = filter < end
 IsInner m main end D (Endless filter) = ⊥
 
-inner_forward : (m message : Contents) (main : Bool) (end : ℕ) (f : Fate) → IsSentOnAs m message → IsGoodFate message main end f → IsInner m main end (Forward message) f
+pub inner_forward : (m message : Contents) (main : Bool) (end : ℕ) (f : Fate) → IsSentOnAs m message → IsGoodFate message main end f → IsInner m main end (Forward message) f
 inner_forward m message main end (Back x) same h = h
 inner_forward m message main end (Awaits question) same h = asked_through_forward m message main end question same h
 inner_forward m message main end (Closes filter reason) same h = h
 inner_forward m message main end (Endless filter) same h = h
 
-inner_side : (m message : Contents) (main : Bool) (end : ℕ) (f : Fate) → IsGoodFate message false end f → IsInner m main end (Side message) f
+pub inner_side : (m message : Contents) (main : Bool) (end : ℕ) (f : Fate) → IsGoodFate message false end f → IsInner m main end (Side message) f
 inner_side m message main end (Back x) h = h
 inner_side m message main end (Awaits question) h = asked_through_side m message main end question h
 inner_side m message main end (Closes filter reason) h = h
 inner_side m message main end (Endless filter) h = h
 
 -- an ask of the filter's own
-front_of_asked : (question : Ask) (f : Outside → Input) (xs : List Outside) → UsesFront (asked_outside question f) xs
+pub front_of_asked : (question : Ask) (f : Outside → Input) (xs : List Outside) → UsesFront (asked_outside question f) xs
 front_of_asked question f [] = record { used = []; front = refl; whatever_follows = λ settled more. absurd settled; all_used = λ other e. refl }
 front_of_asked question f (x ∷ xs) = record { used = x ∷ []; front = refl; whatever_follows = λ settled more. refl; all_used = λ other e. absurd (let z : Back (f x) ≡ Awaits other = e in cc) }
 
-inner_hold : (m : Contents) (main : Bool) (k end : ℕ) (key : List ℕ) (xs : List Outside) → k < end → Fit (asked_outside (ask.Hold k key) as_verdict) xs → IsInner m main end (HoldFor key) (asked_outside (ask.Hold k key) as_verdict xs).fate
+pub inner_hold : (m : Contents) (main : Bool) (k end : ℕ) (key : List ℕ) (xs : List Outside) → k < end → Fit (asked_outside (ask.Hold k key) as_verdict) xs → IsInner m main end (HoldFor key) (asked_outside (ask.Hold k key) as_verdict xs).fate
 inner_hold m main k end key [] inside fit = inside
 inner_hold m main k end key (x ∷ xs) inside fit = verdict_comes k key x (fit [] x xs (ask.Hold k key) refl refl)
 

@@ -1,5 +1,5 @@
 -- What holds of a chain whose filters keep their laws, on whole requests and on what may have come for them.
-use Rattle.std.specs.Prelude.{◌≡◌, ◌≢◌, ◌≤◌, ◌<◌, ℕ, zero, suc, ◌+◌, ◌*◌, true, false, List, length, Option}
+use Rattle.std.specs.Prelude.{◌≡◌, ◌≢◌, ◌≤◌, ◌<◌, ℕ, zero, suc, ◌+◌, ◌*◌, true, false, List, ◌∷◌, ◌++◌, length, Option}
 use Rattle.tree_spelling.specs.Body.{Contents}
 use Rattle.filter_core.specs.declared.reason.Reason.{Reason}
 use Rattle.filter_core.specs.Decision.{Turn}
@@ -29,6 +29,12 @@ abbrev pub NeedsWholeMessages : List Turn → Type 0
 NeedsWholeMessages chain =
     (request : Contents) (given : List Outside) (question : Ask) → IsWholeRequest request → MayHaveCome chain request given
     → run chain request given ≡ Needs question → IsNeedOf chain request question
+
+-- A request goes on to the broker once at most: where it needed the answer to itself, it needs no such answer again, whatever came.
+abbrev pub GoesOnOnce : List Turn → Type 0
+GoesOnOnce chain =
+    (request : Contents) (given : List Outside) (x : Outside) (more : List Outside) (message again : Contents) → IsWholeRequest request → MayHaveCome chain request (given ++ x ∷ more)
+    → run chain request given ≡ Needs (ask.Broker message true) → run chain request (given ++ x ∷ more) ≢ Needs (ask.Broker again true)
 
 -- No filter goes on without an end, and one that shuts is a filter of the chain.
 abbrev pub ComesToAnEnd : List Turn → Type 0

@@ -13,5 +13,7 @@
 #![tactic(auto)]
 
 mod chains;
+mod responses;
 
 pub use chains::{filters_are_lawful, lawful_chain_laws};
+pub use responses::{awaited_law, connection_laws, own_responses_law};
