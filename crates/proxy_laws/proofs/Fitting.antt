@@ -1,0 +1,68 @@
+-- Answers that fit: each is one that may come for what a way awaits with those before it.
+use Rattle.std.proofs.Common.{◌≡◌, ◌∙◌, ap, refl, sym, subst, ℕ, Bool, true, false, if◌then◌else◌, nat_lt, List, [], ◌∷◌, ◌++◌, length, append_assoc, append-nil}
+use Rattle.tree_spelling.specs.Body.{Contents}
+use Rattle.filter_core.specs.declared.input.Input.{Input}
+use Rattle.filter_core.specs.Decision.{Turn}
+use Rattle.side_requests.specs.declared.ask.Ask.{Ask}
+use Rattle.side_requests.specs.AskNumbers.{ask_limit}
+use Rattle.filter_chain.specs.declared.outside.Outside.{Outside}
+use Rattle.filter_chain.specs.declared.state.ShutCause.TheVariants as cause
+use Rattle.filter_chain.specs.Chain.{Fate, Back, Awaits, Course, gives}
+use Rattle.filter_chain.specs.Outcomes.{Needs, Shuts, outcome_after, course, run}
+use Rattle.filter_chain.specs.Laws.{IsSettled, UsesFront}
+use Rattle.proxy_laws.specs.Coming.{MayAnswer, MayMeet, ComeBehind, MayHaveCome}
+
+abbrev pub Fit : (List Outside → Course) → List Outside → Type 0
+Fit way xs =
+    (before : List Outside) (x : Outside) (after : List Outside) (question : Ask) → xs ≡ before ++ x ∷ after → (way before).fate ≡ Awaits question → MayAnswer question x
+
+pub fit_alike : (one other : List Outside → Course) → ((ys : List Outside) → one ys ≡ other ys) → (xs : List Outside) → Fit one xs → Fit other xs
+fit_alike one other alike xs fit before x after question e awaits = fit before x after question e (ap (λ (c : Course). c.fate) (alike before) ∙ awaits)
+
+-- a front of them fits too
+pub fit_front : (way : List Outside → Course) (xs ys : List Outside) → Fit way (xs ++ ys) → Fit way xs
+fit_front way xs ys fit before x after question e awaits =
+    fit before x (after ++ ys) question (ap (λ l. l ++ ys) e ∙ append_assoc before (x ∷ after) ys) awaits
+
+module _ (way : List Outside → Course) (g : Input → List Outside → Course) where
+  awaits_too : (ys : List Outside) (question : Ask) → (way ys).fate ≡ Awaits question → (gives g (way ys)).fate ≡ Awaits question
+  awaits_too ys question e = subst (λ c. (gives g c).fate ≡ Awaits question) (let z : record { fate = Awaits question; left = (way ys).left; turns = (way ys).turns } ≡ way ys = ap (λ f. record { fate = f; left = (way ys).left; turns = (way ys).turns }) (sym e) in z) refl
+
+  -- what fits the whole fits the way to the broker
+  pub fit_nearer : (xs : List Outside) → Fit (λ ys. gives g (way ys)) xs → Fit way xs
+  fit_nearer xs fit before x after question e awaits = fit before x after question e (awaits_too before question awaits)
+
+  -- and what is left of it fits what goes on from there
+  module _ (xs : List Outside) (u : UsesFront way xs) (x : Input) (back : (way xs).fate ≡ Back x) where
+    pub back_with : (more : List Outside) → way (u.used ++ more) ≡ record { fate = Back x; left = more; turns = (way xs).turns }
+    back_with more = u.whatever_follows (subst IsSettled (sym back) tt) more ∙ ap (λ f. record { fate = f; left = more; turns = (way xs).turns }) back
+
+    pub fit_used : (left : List Outside) → Fit (λ ys. gives g (way ys)) (u.used ++ left) → Fit (g x) left
+    fit_used left fit before y after question e awaits =
+        fit (u.used ++ before) y after question (ap (λ l. u.used ++ l) e ∙ sym (append_assoc u.used before (y ∷ after))) (ap (λ (c : Course). (gives g c).fate) (back_with before) ∙ awaits)
+
+    pub fit_left : Fit (λ ys. gives g (way ys)) xs → Fit (g x) (way xs).left
+    fit_left fit = fit_used (way xs).left (subst (Fit (λ ys. gives g (way ys))) u.front fit)
+
+-- ---- a whole request
+
+behind_split : (chain : List Turn) (request : Contents) (start xs before : List Outside) (x : Outside) (after : List Outside) → ComeBehind chain request start xs → xs ≡ before ++ x ∷ after → MayMeet (run chain request (start ++ before)) x
+behind_split chain request start [] [] x after come e = absurd cc
+behind_split chain request start [] (y ∷ before) x after come e = absurd cc
+behind_split chain request start (z ∷ xs) [] x after come e = let same : z ≡ x = cc in subst (λ l. MayMeet (run chain request l) x) (sym (append-nil start)) (subst (MayMeet (run chain request start)) same come.0)
+behind_split chain request start (z ∷ xs) (y ∷ before) x after come e =
+    let same : z ≡ y = cc in
+    let rest : xs ≡ before ++ x ∷ after = cc in
+    subst (λ l. MayMeet (run chain request l) x) (append_assoc start (y ∷ []) before) (behind_split chain request (start ++ y ∷ []) xs before x after (subst (λ w. ComeBehind chain request (start ++ w ∷ []) xs) same come.1) rest)
+
+-- what may meet a request that awaits something answers it
+meets_ask : (b : Bool) (question : Ask) (x : Outside) → MayMeet (if b then Needs question else Shuts cause.AskBudget) x → MayAnswer question x
+meets_ask true question x h = h
+meets_ask false question x h = absurd h
+
+meets_fate : (n : ℕ) (fate : Fate) (question : Ask) (x : Outside) → fate ≡ Awaits question → MayMeet (outcome_after n fate) x → MayAnswer question x
+meets_fate n fate question x e h = meets_ask (nat_lt n ask_limit) question x (subst (λ f. MayMeet (outcome_after n f) x) e h)
+
+pub come_fit : (chain : List Turn) (request : Contents) (given : List Outside) → MayHaveCome chain request given → Fit (course chain request) given
+come_fit chain request given come before x after question e awaits =
+    meets_fate (length before) (course chain request before).fate question x awaits (behind_split chain request [] given before x after come e)

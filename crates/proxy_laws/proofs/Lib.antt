@@ -1,0 +1,9 @@
+mod Fitting
+mod Sound
+mod Once
+mod Requests
+mod Supported
+mod Connections
+mod Lists
+mod Histories
+mod Sent

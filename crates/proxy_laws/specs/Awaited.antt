@@ -1,0 +1,44 @@
+-- What a connection gives its requests: what each waits for, and nothing else.
+use Rattle.std.specs.Prelude.{◌≡◌, true, false, ℕ, List, [], ◌∷◌, ◌++◌, None, All}
+use Rattle.tree_spelling.specs.Laws.{AreBytes}
+use Rattle.conn_rules.specs.declared.event.Event.{Event}
+use Rattle.conn_rules.specs.declared.event.Event.TheVariants as event
+use Rattle.conn_rules.specs.Meaning.{Meaning, ToBroker, Hold, Status, Waits, Done, Fails}
+use Rattle.conn_rules.specs.State.{Outside, Body, NoResponse, Verdict, Request}
+use Rattle.conn_rules.specs.History.{Entry}
+
+-- A request that waits for an answer gets a body that can be read, or none where its message gets no response. One that is held
+-- gets a verdict.
+abbrev pub IsAwaited : Meaning → Status → Outside → Type 0
+IsAwaited M (Waits (ToBroker before behind main responds)) (Body bytes) = (responds ≡ true) × AreBytes bytes × (M.unreadable before bytes ≡ None)
+IsAwaited M (Waits (ToBroker before behind main responds)) NoResponse = responds ≡ false
+IsAwaited M (Waits (ToBroker before behind main responds)) (Verdict bytes) = ⊥
+IsAwaited M (Waits (Hold key)) (Body bytes) = ⊥
+IsAwaited M (Waits (Hold key)) NoResponse = ⊥
+IsAwaited M (Waits (Hold key)) (Verdict bytes) = Unit {0}
+IsAwaited M (Done response) x = ⊥
+IsAwaited M (Fails why) x = ⊥
+
+-- each of these, which came behind `before`, is what the request in this frame waited for with those before it
+abbrev pub AwaitedBehind : Meaning → List ℕ → List Outside → List Outside → Type 0
+AwaitedBehind M frame before [] = Unit {0}
+AwaitedBehind M frame before (x ∷ xs) = IsAwaited M (M.status frame before) x × AwaitedBehind M frame (before ++ x ∷ []) xs
+
+-- all that a request in this frame was given
+abbrev pub AreAwaited : Meaning → List ℕ → List Outside → Type 0
+AreAwaited M frame given = AwaitedBehind M frame [] given
+
+-- the frame is a request, and was given what it waited for
+pub record IsFairRequest (M : Meaning) (r : Request) : Type 0 where
+  pub bytes : AreBytes r.frame
+  pub is_request : M.no_request r.frame ≡ None
+  pub awaited : AreAwaited M r.frame r.given
+
+-- the frames that an event brings are bytes
+abbrev pub BringsBytes : Event → Type 0
+BringsBytes (event.Take frame) = AreBytes frame
+BringsBytes (event.Answer frame) = AreBytes frame
+BringsBytes _ = Unit {0}
+
+abbrev pub AllBringBytes : List Entry → Type 0
+AllBringBytes hs = All (λ h. BringsBytes h.event) hs

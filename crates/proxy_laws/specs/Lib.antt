@@ -1,0 +1,4 @@
+pub mod Coming
+pub mod LawfulChains
+pub mod Awaited
+pub mod OwnResponses

@@ -1,0 +1,29 @@
+ghost use Rattle.std.specs.Prelude.{List, ℕ, All};
+ghost use Rattle.filter_core.specs.Decision.{Turn};
+ghost use Rattle.filter_core.specs.Laws.{IsLawful};
+ghost use Rattle.conn_rules.specs.Meaning.{Meaning};
+ghost use Rattle.conn_rules.specs.State.{State};
+ghost use Rattle.conn_rules.specs.History.{Entry, IsHistory};
+ghost use Rattle.conn_core.specs.Chained.{chained};
+ghost use Rattle.proxy_laws.specs.Awaited.{IsFairRequest, AllBringBytes};
+ghost use Rattle.proxy_laws.specs.OwnResponses.{RespondsWithItsOwn, SendsFairMessages, AreOwnResponses};
+
+/// Whatever comes, in whatever order, each request of a connection is given what it waits for, and nothing else. It is so
+/// under every meaning of requests.
+pub fn awaited_law()
+    ensures { (M : Meaning) (hs : List Entry) (s : State) → IsHistory M hs s → AllBringBytes hs → All (IsFairRequest M) s.requests }
+{}
+
+/// What a request gets, and what it sends, in a connection under a chain of lawful filters.
+pub fn connection_laws()
+    // A response is of the request's own API and version.
+    ensures own_response { (chain : List Turn) (limit : ℕ) → All IsLawful chain → RespondsWithItsOwn chain limit }
+    // What goes to the broker is whole, of a supported API and version, and the request itself or asked aside.
+    ensures fair_messages { (chain : List Turn) (limit : ℕ) → All IsLawful chain → SendsFairMessages chain limit }
+{}
+
+/// What a client is sent, in every history of a connection under a chain of lawful filters: for the first of its frames, one after
+/// another, its own response.
+pub fn own_responses_law()
+    ensures { (chain : List Turn) (limit : ℕ) (hs : List Entry) (s : State) → All IsLawful chain → IsHistory (chained chain limit) hs s → AllBringBytes hs → AreOwnResponses hs }
+{}
