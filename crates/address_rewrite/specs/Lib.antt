@@ -4,3 +4,4 @@ pub mod AtProxy
 pub mod AddressFields
 pub mod AddressedTrees
 pub mod AddressLaws
+pub mod PlanFilter

@@ -3,7 +3,7 @@ ghost use Rattle.virtual_cluster.specs.Limits.{IsValid};
 ghost use Rattle.tree_codec.specs.Copying.{followed_by};
 ghost use Rattle.filter_core.specs.Decision.{Makes};
 ghost use Rattle.address_rewrite.specs.Nodes.{NodeAddress, address_items, map_nodes};
-ghost use Rattle.address_rewrite.specs.Addresses.{names_nodes, client_port, is_stray, first_stray, advertised_by, addressed, addressed_response, addresses, port_behind};
+ghost use Rattle.address_rewrite.specs.Addresses.{names_nodes, client_port, is_stray, first_stray, advertised_by, addressed, addressed_response, addresses};
 
 use crate::building::{finish, push, push_shared, share, share_text};
 use crate::nodes::split_node;
@@ -38,6 +38,8 @@ pub struct Addresses {
 }
 
 impl Addresses {
+    ghost use Rattle.address_rewrite.specs.PlanFilter.{ports_of, addresses_turn};
+
     /// The filter of a plan. Its memory is that of the host.
     pub fn new(alloc: Global, plan: &ClusterPlan) -> Result<Addresses, NoMemory>
         requires { IsValid plan.now }
@@ -57,7 +59,7 @@ impl Addresses {
 
     // The port of a node for clients.
     fn client_port(&self, node: i32) -> Option<u16>
-        ensures { result ≡ client_port (port_behind self.now.port self.now.first_node self.now.count) node }
+        ensures { result ≡ client_port (ports_of self.now) node }
     {
         if node < 0 || node < self.first_node {
             return None;
@@ -72,13 +74,13 @@ impl Addresses {
 
     // Whether it is a node without a port.
     fn is_stray(&self, node: i32) -> bool
-        ensures { result ≡ is_stray (port_behind self.now.port self.now.first_node self.now.count) node }
+        ensures { result ≡ is_stray (ports_of self.now) node }
     {
         0 <= node && self.client_port(node).is_none()
     }
 
     fn first_stray(&self, items: &[Primitive]) -> Option<i32>
-        ensures { result ≡ first_stray (port_behind self.now.port self.now.first_node self.now.count) items.now }
+        ensures { result ≡ first_stray (ports_of self.now) items.now }
     {
         let mut rest = items;
         while let Some((_, behind)) = rest.split_first() {
@@ -102,7 +104,7 @@ impl Addresses {
         host: &Option<Bytes>,
         port: i32,
     ) -> Result<(), NoMemory>
-        ensures { OnOk result (out.new ≡ followed_by out.old (address_items (advertised_by self.now.host (port_behind self.now.port self.now.first_node self.now.count) (record { node = node; host = host.now; port = port })))) }
+        ensures { OnOk result (out.new ≡ followed_by out.old (address_items (advertised_by self.now.host (ports_of self.now) (record { node = node; host = host.now; port = port })))) }
     {
         push(out, Primitive::Int32(node))?;
         match self.client_port(node) {
@@ -118,7 +120,7 @@ impl Addresses {
     }
 
     fn push_addressed(&self, out: &mut Builder, items: &[Primitive]) -> Result<(), NoMemory>
-        ensures { OnOk result (out.new ≡ followed_by out.old (map_nodes (advertised_by self.now.host (port_behind self.now.port self.now.first_node self.now.count)) items.now)) }
+        ensures { OnOk result (out.new ≡ followed_by out.old (map_nodes (advertised_by self.now.host (ports_of self.now)) items.now)) }
     {
         let mut rest = items;
         while let Some((first, behind)) = rest.split_first() {
@@ -138,7 +140,7 @@ impl Addresses {
 
     // The response with each node at its address.
     fn addressed(&self, alloc: Global, response: &Body) -> Result<Body, NoMemory>
-        ensures { IfOk result (λ new. new ≡ addressed self.now.host (port_behind self.now.port self.now.first_node self.now.count) response.now) }
+        ensures { IfOk result (λ new. new ≡ addressed self.now.host (ports_of self.now) response.now) }
     {
         let mut out = Builder::new(alloc, response.key(), response.version(), response.dir());
         self.push_addressed(&mut out, response.items())?;
@@ -147,7 +149,7 @@ impl Addresses {
 
     // What is done with a response.
     fn answer(&self, alloc: Global, response: Body) -> Result<Move<Addressing>, NoMemory>
-        ensures { IfOk result (λ made. Makes (λ _. ⊥) (addressed_response self.now.host (port_behind self.now.port self.now.first_node self.now.count) response) made) }
+        ensures { IfOk result (λ made. Makes (λ _. ⊥) (addressed_response self.now.host (ports_of self.now) response) made) }
     {
         if !names_nodes(&response) {
             return Ok(Move::Return(Some(response)));
@@ -161,12 +163,11 @@ impl Addresses {
 
 impl Filter for Addresses {
     ghost use Rattle.std.specs.Prelude.{◌≡◌, []};
-    ghost use Rattle.address_rewrite.specs.Addresses.{addresses_by, port_behind};
-    ghost use Rattle.address_rewrite.specs.AddressLaws.{can_be_spelled, addresses_lawful};
+    ghost use Rattle.address_rewrite.specs.PlanFilter.{addresses_turn, addresses_turn_lawful};
 
     type Pending = Addressing;
 
-    ghost turn = { λ filter. addresses_by filter.host (port_behind filter.port filter.first_node filter.count) };
+    ghost turn = { addresses_turn };
 
     ghost stands = { λ _ _ _ inputs. inputs ≡ [] };
 
@@ -186,15 +187,15 @@ impl Filter for Addresses {
         }
     }
 
-    ghost forwards_once = { λ filter. (addresses_lawful filter.host (port_behind filter.port filter.first_node filter.count) (can_be_spelled filter.host filter.port filter.first_node filter.count filter.host_fits filter.ports_fit)).forwards_once };
+    ghost forwards_once = { λ filter. (addresses_turn_lawful filter).forwards_once };
 
-    ghost ends_after_six = { λ filter. (addresses_lawful filter.host (port_behind filter.port filter.first_node filter.count) (can_be_spelled filter.host filter.port filter.first_node filter.count filter.host_fits filter.ports_fit)).ends_after_six };
+    ghost ends_after_six = { λ filter. (addresses_turn_lawful filter).ends_after_six };
 
-    ghost forwards_the_same = { λ filter. (addresses_lawful filter.host (port_behind filter.port filter.first_node filter.count) (can_be_spelled filter.host filter.port filter.first_node filter.count filter.host_fits filter.ports_fit)).forwards_the_same };
+    ghost forwards_the_same = { λ filter. (addresses_turn_lawful filter).forwards_the_same };
 
-    ghost questions_are_answered = { λ filter. (addresses_lawful filter.host (port_behind filter.port filter.first_node filter.count) (can_be_spelled filter.host filter.port filter.first_node filter.count filter.host_fits filter.ports_fit)).questions_are_answered };
+    ghost questions_are_answered = { λ filter. (addresses_turn_lawful filter).questions_are_answered };
 
-    ghost returns_an_answer = { λ filter. (addresses_lawful filter.host (port_behind filter.port filter.first_node filter.count) (can_be_spelled filter.host filter.port filter.first_node filter.count filter.host_fits filter.ports_fit)).returns_an_answer };
+    ghost returns_an_answer = { λ filter. (addresses_turn_lawful filter).returns_an_answer };
 }
 
 // Whether a response names nodes.

@@ -1,5 +1,4 @@
 -- Why one type over all filters keeps the laws: each filter does.
-use Rattle.std.specs.Prelude.{◌≡◌}
 use Rattle.tree_spelling.specs.Body.{Contents}
 use Rattle.filter_core.specs.declared.input.Input.{Input}
 use Rattle.filter_core.specs.Decision.{Decision, Forward}

@@ -1,5 +1,5 @@
 -- One type over all filters: each value means what the filter in it means.
-use Rattle.std.specs.Prelude.{◌≡◌, pos, List, [], Option}
+use Rattle.std.specs.Prelude.{◌≡◌, pos, List, []}
 use Rattle.tree_spelling.specs.Body.{Contents}
 use Rattle.filter_core.specs.declared.input.Input.{Input}
 use Rattle.filter_core.specs.declared.moves.Move.{Move}

@@ -5,9 +5,7 @@ use address_rewrite::Addresses;
 use filter_core::{Filter, Input, Move};
 use kp_edge::NoMemory;
 use std::alloc::Global;
-use stock_filters::{
-    ApiBlock, GroupLive, Narrow, ProduceAll, TopicDeny, TopicExists, TopicPolicy,
-};
+use stock_filters::{ApiBlock, GroupLive, Narrow, ProduceAll, TopicDeny, TopicExists, TopicPolicy};
 use tree_codec::Body;
 
 /// Any of the filters. It does what the filter inside does.

@@ -1,4 +1,4 @@
-ghost use Rattle.std.specs.Prelude.{◌≡◌, None, map, IfOk};
+ghost use Rattle.std.specs.Prelude.{◌≡◌, ◌++◌, None, map, OnOk, IfOk};
 ghost use Rattle.virtual_cluster.specs.Limits.{IsValid};
 ghost use Rattle.any_filter.specs.Chains.{filter_turn, cluster_chain};
 
@@ -7,9 +7,7 @@ use address_rewrite::Addresses;
 use filter_core::Filter;
 use kp_edge::{Blob, NoMemory};
 use std::alloc::Global;
-use stock_filters::{
-    ApiBlock, GroupLive, Narrow, ProduceAll, TopicDeny, TopicExists, TopicPolicy,
-};
+use stock_filters::{ApiBlock, GroupLive, Narrow, ProduceAll, TopicDeny, TopicExists, TopicPolicy};
 use virtual_cluster::{ClusterPlan, FilterPlan};
 
 /// The filters of a plan, from the client to the broker. A plan whose names have a prefix has no chain yet.
@@ -20,11 +18,23 @@ pub fn chain_of(alloc: Global, plan: &ClusterPlan) -> Result<Vec<AnyFilter>, NoM
 {
     let mut chain = Vec::new(alloc);
     chain.push(AnyFilter::Narrow(Narrow))?;
-    for filter in plan.filters.as_slice() {
-        chain.push(filter_of(alloc, filter)?)?;
-    }
+    push_filters(alloc, &mut chain, plan.filters.as_slice())?;
     chain.push(AnyFilter::Addresses(Addresses::new(alloc, plan)?))?;
     Ok(chain)
+}
+
+fn push_filters(
+    alloc: Global,
+    chain: &mut Vec<AnyFilter>,
+    plans: &[FilterPlan],
+) -> Result<(), NoMemory>
+    ensures { OnOk result (map (⟦<AnyFilter as Filter>⟧.turn) chain.new.items
+        ≡ map (⟦<AnyFilter as Filter>⟧.turn) chain.old.items ++ map filter_turn plans.now) }
+{
+    for plan in plans {
+        chain.push(filter_of(alloc, plan)?)?;
+    }
+    Ok(())
 }
 
 // The filter that a word of a configuration asks for.

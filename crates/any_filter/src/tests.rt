@@ -135,7 +135,13 @@ fn started(
     version: i16,
     request: &'static [u8],
 ) -> Option<Move<AnyPending>> {
-    let request = decode(alloc, key, version, Dir::Request, Bytes::from_static(request));
+    let request = decode(
+        alloc,
+        key,
+        version,
+        Dir::Request,
+        Bytes::from_static(request),
+    );
     filter.start(alloc, request.ok()?).ok()
 }
 
@@ -200,7 +206,10 @@ fn each_filter_makes_its_own_first_move(rt: HostRuntime) -> Result<(), Fail> {
         let filter = chain.get(*place).ok_or("short")?;
         let made = started(rt.alloc(), filter, *key, *version, *request);
         let made = shown(rt.alloc(), &made.ok_or(*wanted)?).ok_or(*wanted)?;
-        assert_eq!(rt; (*place, made.0, made.1.as_slice()), (*place, *wanted, *bytes));
+        assert_eq!(rt;
+            (*place, made.0, made.1.as_slice()),
+            (*place, *wanted, *bytes)
+        );
     }
     Ok(())
 }
@@ -291,7 +300,10 @@ fn each_filter_makes_its_own_next_move(rt: HostRuntime) -> Result<(), Fail> {
         let came = Input::Response(came.ok().ok_or(*wanted)?);
         let next = filter.resume(rt.alloc(), kept, came).ok().ok_or(*wanted)?;
         let next = shown(rt.alloc(), &next).ok_or(*wanted)?;
-        assert_eq!(rt; (*place, next.0, next.1.as_slice()), (*place, *wanted, *bytes));
+        assert_eq!(rt;
+            (*place, next.0, next.1.as_slice()),
+            (*place, *wanted, *bytes)
+        );
     }
     Ok(())
 }
