@@ -7,3 +7,4 @@ mod Connections
 mod Lists
 mod Histories
 mod Sent
+mod WorkedAnswers

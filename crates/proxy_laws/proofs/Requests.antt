@@ -16,7 +16,7 @@ use Rattle.filter_chain.specs.declared.state.ShutCause.TheVariants as cause
 use Rattle.filter_chain.specs.Chain.{Fate, Back, Awaits, Closes, Endless}
 use Rattle.filter_chain.specs.Outcomes.{Needs, Completed, Shuts, NeverEnds, outcome_after, course}
 use Rattle.proxy_laws.specs.Coming.{MayHaveCome}
-use Rattle.proxy_laws.specs.LawfulChains.{CompletesWithItsOwn, IsNeedOf, NeedsWholeMessages, GoesOnOnce, ComesToAnEnd, ShutsByItsOwn, HasFewTurns, turns_within}
+use Rattle.proxy_laws.specs.LawfulChains.{CompletesWithItsOwn, IsNeedOf, NeedsWholeMessages, HasOneMainSend, ComesToAnEnd, ShutsByItsOwn, HasFewTurns, turns_within}
 use Rattle.proxy_laws.proofs.Fitting.{come_fit}
 use Rattle.proxy_laws.proofs.Once.{IsMainAsk, AwaitsMain, once_way}
 use Rattle.proxy_laws.proofs.Sound.{IsGood, IsGoodFate, IsAskedFor, coming_answers, good_way}
@@ -105,7 +105,7 @@ awaits_main n (Awaits question) message e = subst IsMainAsk (sym (asks_this (nat
 awaits_main n (Closes filter reason) message e = absurd cc
 awaits_main n (Endless filter) message e = absurd cc
 
-pub goes_on_once : (chain : List Turn) → All IsLawful chain → GoesOnOnce chain
-goes_on_once chain lawful request given x more message again whole come first second =
+pub one_main_send : (chain : List Turn) → All IsLawful chain → HasOneMainSend chain
+one_main_send chain lawful request given x more message again whole come first second =
     once_way chain (one_by_one IsLawful chain lawful) 0 (length chain) (omega arith) request true (whole, λ e. absurd (let z : true ≡ false = e in cc)) given x more (come_fit chain request (given ++ x ∷ more) come)
     (awaits_main (length given) (course chain request given).fate message first) (awaits_main (length (given ++ x ∷ more)) (course chain request (given ++ x ∷ more)).fate again second)

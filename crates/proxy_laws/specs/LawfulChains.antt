@@ -31,8 +31,8 @@ NeedsWholeMessages chain =
     → run chain request given ≡ Needs question → IsNeedOf chain request question
 
 -- A request goes on to the broker once at most: where it needed the answer to itself, it needs no such answer again, whatever came.
-abbrev pub GoesOnOnce : List Turn → Type 0
-GoesOnOnce chain =
+abbrev pub HasOneMainSend : List Turn → Type 0
+HasOneMainSend chain =
     (request : Contents) (given : List Outside) (x : Outside) (more : List Outside) (message again : Contents) → IsWholeRequest request → MayHaveCome chain request (given ++ x ∷ more)
     → run chain request given ≡ Needs (ask.Broker message true) → run chain request (given ++ x ∷ more) ≢ Needs (ask.Broker again true)
 

@@ -1,7 +1,7 @@
 ghost use Rattle.std.specs.Prelude.{List, All, map};
 ghost use Rattle.filter_core.specs.Decision.{Turn};
 ghost use Rattle.filter_core.specs.Laws.{IsLawful};
-ghost use Rattle.proxy_laws.specs.LawfulChains.{CompletesWithItsOwn, NeedsWholeMessages, GoesOnOnce, ComesToAnEnd, ShutsByItsOwn, HasFewTurns};
+ghost use Rattle.proxy_laws.specs.LawfulChains.{CompletesWithItsOwn, NeedsWholeMessages, HasOneMainSend, ComesToAnEnd, ShutsByItsOwn, HasFewTurns};
 
 use filter_core::Filter;
 
@@ -12,7 +12,7 @@ pub fn lawful_chain_laws()
     // What goes to the broker is the request itself, or a message aside that it answers.
     ensures whole_messages { (chain : List Turn) → All IsLawful chain → NeedsWholeMessages chain }
     // The request itself goes to the broker once at most.
-    ensures goes_on_once { (chain : List Turn) → All IsLawful chain → GoesOnOnce chain }
+    ensures one_main_send { (chain : List Turn) → All IsLawful chain → HasOneMainSend chain }
     // No filter goes on without an end.
     ensures comes_to_an_end { (chain : List Turn) → All IsLawful chain → ComesToAnEnd chain }
     // The filter that shuts is one of the chain.

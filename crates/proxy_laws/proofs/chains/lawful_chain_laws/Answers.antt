@@ -1,4 +1,4 @@
-use Rattle.proxy_laws.proofs.Requests.{own_response, whole_messages, goes_on_once, comes_to_an_end, shuts_by_its_own, few_turns}
+use Rattle.proxy_laws.proofs.Requests.{own_response, whole_messages, one_main_send, comes_to_an_end, shuts_by_its_own, few_turns}
 use Rattle.proxy_laws.proofs.chains.lawful_chain_laws.Goals as goal
 
 pub returns-clause-own_response : goal.returns-clause-own_response
@@ -16,5 +16,5 @@ returns-clause-shuts_by_its_own c = shuts_by_its_own
 pub returns-clause-few_turns : goal.returns-clause-few_turns
 returns-clause-few_turns c = few_turns
 
-pub returns-clause-goes_on_once : goal.returns-clause-goes_on_once
-returns-clause-goes_on_once c = goes_on_once
+pub returns-clause-one_main_send : goal.returns-clause-one_main_send
+returns-clause-one_main_send c = one_main_send
