@@ -25,16 +25,16 @@ use Rattle.filter_core.specs.Laws.{AnswersRequest, IsLawful}
 use Rattle.side_requests.specs.declared.ask.Ask.TheVariants as ask
 use Rattle.filter_chain.specs.declared.outside.Outside as chains
 use Rattle.filter_chain.specs.Outcomes.{Outcome, Needs, Completed, Shuts, NeverEnds, run}
-use Rattle.conn_rules.specs.Meaning.{Meaning, Done}
-use Rattle.conn_rules.specs.State.{Outside, Body, NoResponse, Verdict}
-use Rattle.conn_core.specs.Requests.{request_of, request_body, request_decoded, client_id_length, is_silent, is_told_versions, versions_told, body_cause, frame_cause, answer_cause, response_decoded, response_read, items_read}
+use Rattle.conn_rules.specs.Meaning.{Meaning, Ask, ToBroker, Hold, Waits, Done}
+use Rattle.conn_rules.specs.State.{Outside, Body, NoResponse, Verdict, ListedSend}
+use Rattle.conn_core.specs.Requests.{client_id_spelled, request_of, request_body, request_decoded, client_id_length, is_silent, is_told_versions, versions_told, body_cause, frame_cause, answer_cause, response_decoded, response_read, items_read}
 use Rattle.conn_core.specs.Chained.{taken_as, given_behind, given_to, most_out, grown_past, message_size, sent_for, responded, response_body, outcome_status, chain_outcome, chained}
 use Rattle.conn_core.proofs.Lasting.{given_later, done_is_completed}
 use Rattle.proxy_laws.specs.Coming.{MayMeet, ComeBehind, MayHaveCome}
 use Rattle.proxy_laws.specs.LawfulChains.{IsNeedOf}
-use Rattle.proxy_laws.specs.Awaited.{IsAwaited, AwaitedBehind, AreAwaited}
-use Rattle.proxy_laws.specs.OwnResponses.{IsResponseFrame, RespondsWithItsOwn, IsFairMessage, SendsFairMessages}
-use Rattle.proxy_laws.proofs.Requests.{own_response, whole_messages}
+use Rattle.proxy_laws.specs.Awaited.{IsAwaited, AwaitedBehind, AreAwaited, IsFairRequest}
+use Rattle.proxy_laws.specs.OwnResponses.{IsResponseFrame, RespondsWithItsOwn, IsFairMessage, IsMessageSend, SendsFairMessages, AllComeToAnEnd}
+use Rattle.proxy_laws.proofs.Requests.{own_response, whole_messages, comes_to_an_end}
 use Rattle.proxy_laws.proofs.Supported.{supported_fits, key_again, version_again}
 
 -- ---- bodies that are read are trees
@@ -216,5 +216,70 @@ module _ (chain : List Turn) (limit : ℕ) (frame : List ℕ) where
 pub responds_with_its_own : (chain : List Turn) (limit : ℕ) → All IsLawful chain → RespondsWithItsOwn chain limit
 responds_with_its_own chain limit lawful r response fair e = own_either chain limit r.frame lawful fair.bytes fair.is_request r.given fair.awaited response (is_told_versions r.frame) refl e
 
-pub sends_fair_messages : (chain : List Turn) (limit : ℕ) → All IsLawful chain → SendsFairMessages chain limit
-sends_fair_messages chain limit lawful r message main fair not_told e = fair_message chain limit r.frame lawful fair.bytes fair.is_request not_told r.given message main fair.awaited e
+-- ---- what goes to the broker
+
+waits_is_needed : (frame : List ℕ) (message : Contents) (main b : Bool) (size : ℕ) (question : Ask) → (if b then sent_for frame message main else grown_past size) ≡ Waits question → sent_for frame message main ≡ Waits question
+waits_is_needed frame message main true size question e = e
+waits_is_needed frame message main false size question e = absurd (let z : grown_past size ≡ Waits question = e in cc)
+
+done_waits : (silent b : Bool) (size : ℕ) (response : List ℕ) (question : Ask) → (if silent then Done [] else if b then Done response else grown_past size) ≡ Waits question → ⊥
+done_waits true b size response question e = let z : Done [] ≡ Waits question = e in cc
+done_waits false true size response question e = let z : Done response ≡ Waits question = e in cc
+done_waits false false size response question e = let z : grown_past size ≡ Waits question = e in cc
+
+-- the parts of the send of a message
+record IsSentAs (frame : List ℕ) (message : Contents) (before behind : List ℕ) (main responds asked : Bool) : Type 0 where
+  before_is : before ≡ int16 message.key ++ int16 message.version
+  behind_is : behind ≡ client_id_spelled frame ++ spelling message.items
+  main_is : main ≡ asked
+  responds_is : responds ≡ not (has_acks_zero message)
+
+parts_of : (frame : List ℕ) (message : Contents) (asked : Bool) (before behind : List ℕ) (main responds : Bool) → sent_for frame message asked ≡ Waits (ToBroker before behind main responds) → IsSentAs frame message before behind main responds asked
+parts_of frame message asked before behind main responds e =
+    let z : Waits (ToBroker (int16 message.key ++ int16 message.version) (client_id_spelled frame ++ spelling message.items) asked (not (has_acks_zero message))) ≡ Waits (ToBroker before behind main responds) = e in
+    record { before_is = cc; behind_is = cc; main_is = cc; responds_is = cc }
+
+record IsNeeding (frame : List ℕ) (o : Outcome) (before behind : List ℕ) (main responds : Bool) : Type 0 where
+  message : Contents
+  asked : Bool
+  needs : o ≡ Needs (ask.Broker message asked)
+  parts : IsSentAs frame message before behind main responds asked
+
+needing : (frame : List ℕ) (o : Outcome) (before behind : List ℕ) (main responds : Bool) → outcome_status frame o ≡ Waits (ToBroker before behind main responds) → IsNeeding frame o before behind main responds
+needing frame (Needs (ask.Broker message asked)) before behind main responds e =
+    record {
+      message = message;
+      asked = asked;
+      needs = refl;
+      parts = parts_of frame message asked before behind main responds (waits_is_needed frame message asked (nat_le (message_size frame message) most_out) (message_size frame message) (ToBroker before behind main responds) e);
+    }
+needing frame (Needs (ask.Hold filter key)) before behind main responds e = absurd (let z : Waits (Hold key) ≡ Waits (ToBroker before behind main responds) = e in cc)
+needing frame (Completed response) before behind main responds e =
+    absurd (done_waits (is_silent frame) (nat_le (4 + length (response_body response)) most_out) (4 + length (response_body response)) (sized (request_id frame ++ response_body response)) (ToBroker before behind main responds) e)
+needing frame (Shuts cause) before behind main responds e = absurd cc
+needing frame (NeverEnds filter) before behind main responds e = absurd cc
+
+module _ (chain : List Turn) (limit : ℕ) (lawful : All IsLawful chain) where
+  message_send : (frame : List ℕ) (d : ListedSend) (given : List Outside) → IsFairRequest (chained chain limit) (record { frame = frame; given = given }) → is_told_versions frame ≡ false
+      → outcome_status frame (chain_outcome chain frame given) ≡ Waits (ToBroker d.before d.behind d.main d.responds) → IsMessageSend chain frame d
+  message_send frame d given fair not_told e =
+      let n = needing frame (chain_outcome chain frame given) d.before d.behind d.main d.responds e in
+      record {
+        message = n.message;
+        fair = subst (IsFairMessage chain frame n.message) (sym n.parts.main_is) (fair_message chain limit frame lawful fair.bytes fair.is_request not_told given n.message n.asked fair.awaited n.needs);
+        before_is = n.parts.before_is;
+        behind_is = n.parts.behind_is;
+        responds_is = n.parts.responds_is;
+      }
+
+  message_if : (frame : List ℕ) (d : ListedSend) (given : List Outside) → IsFairRequest (chained chain limit) (record { frame = frame; given = given }) → (told : Bool) → is_told_versions frame ≡ told
+      → (if told then Done (versions_told frame) else outcome_status frame (chain_outcome chain frame given)) ≡ Waits (ToBroker d.before d.behind d.main d.responds) → IsMessageSend chain frame d
+  message_if frame d given fair true is e = absurd (let z : Done (versions_told frame) ≡ Waits (ToBroker d.before d.behind d.main d.responds) = e in cc)
+  message_if frame d given fair false is e = message_send frame d given fair is e
+
+  pub sends_fair_messages : SendsFairMessages chain limit
+  sends_fair_messages frame d send = message_if frame d send.given send.fair (is_told_versions frame) refl send.waits
+
+  pub all_come_to_an_end : AllComeToAnEnd chain limit
+  all_come_to_an_end r filter fair not_told e =
+      comes_to_an_end chain lawful (request_of r.frame) (given_to chain (request_of r.frame) r.given) filter (whole_request r.frame fair.bytes fair.is_request not_told) (given_come chain limit r.frame lawful fair.bytes fair.is_request not_told r.given fair.awaited) e

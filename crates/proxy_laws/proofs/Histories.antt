@@ -23,7 +23,7 @@ use Rattle.conn_rules.specs.Causes.{below, cut_cause, with_cut, client_ended, br
 use Rattle.conn_rules.specs.Settling.{Act, CutAt, Lists, is_listed, lets_later_go, act_of, or_else, act_from, next_act, listed, acted, after_acts}
 use Rattle.conn_rules.specs.Steps.{joined, read_body, matched, attributed, answer_step, hold_of, hold_in, open_hold, is_hold, complete_step, client_end, faulted, noted, sent_next, first_hold, picked_next, response_in, silent_passed, over_or, respond_or, told_again, emit_step, answer_to, StepOrNoMemory}
 use Rattle.conn_rules.specs.History.{Entry, LeadsTo, IsHistory}
-use Rattle.proxy_laws.specs.Awaited.{IsAwaited, AwaitedBehind, IsFairRequest, BringsBytes, AllBringBytes}
+use Rattle.proxy_laws.specs.Awaited.{IsAwaited, AwaitedBehind, IsFairRequest, IsAwaitedSend, IsOwnSend, BringsBytes, AllBringBytes}
 use Rattle.proxy_laws.proofs.Lists.{if_responding, still_there, there_or_new, set_there, set_elsewhere, same_element, inside, same_or_not, respond_taken, respond_more, respond_listed}
 
 module _ (M : Meaning) where
@@ -43,6 +43,7 @@ module _ (M : Meaning) where
     counted : s.answered ≤ length (due s)
     pending : (n : ℕ) (e : ℕ × ListedSend) → s.answered ≤ n → slice_get (due s) n ≡ Some e → below s.causes.cut e.1.request ≡ true → IsPending s e.1
     alone : (n m : ℕ) (e f : ℕ × ListedSend) → s.answered ≤ n → n < m → slice_get (due s) n ≡ Some e → slice_get (due s) m ≡ Some f → e.1.request ≡ f.1.request → ⊥
+    own : (n : ℕ) (d : ListedSend) → slice_get s.sends n ≡ Some d → IsOwnSend M s d
 
   -- ---- what doesn't matter
 
@@ -51,6 +52,9 @@ module _ (M : Meaning) where
 
   same_pending : (s t : State) (d : ListedSend) → t.requests ≡ s.requests → IsPending s d → IsPending t d
   same_pending s t d e p = record { request = p.request; there = ap (λ rs. slice_get rs d.request) e ∙ p.there; ask = p.ask; waits = p.waits }
+
+  same_own : (s t : State) (d : ListedSend) → t.requests ≡ s.requests → IsOwnSend M s d → IsOwnSend M t d
+  same_own s t d e p = record { request = p.request; there = ap (λ rs. slice_get rs d.request) e ∙ p.there; send = p.send }
 
   sound_same : (s t : State) → t.requests ≡ s.requests → t.sends ≡ s.sends → t.answered ≡ s.answered → IsLower s t → IsSound s → IsSound t
   sound_same s t er es ea lower h =
@@ -61,6 +65,7 @@ module _ (M : Meaning) where
             same_pending s t e.1 er (h.pending n e (subst (λ a. a ≤ n) ea le) (ap (λ ds. slice_get (responding 0 ds) n) (sym es) ∙ there) (lower e.1.request low));
         alone = λ n m e f le lt there also.
             h.alone n m e f (subst (λ a. a ≤ n) ea le) lt (ap (λ ds. slice_get (responding 0 ds) n) (sym es) ∙ there) (ap (λ ds. slice_get (responding 0 ds) m) (sym es) ∙ also);
+        own = λ n d there. same_own s t d er (h.own n d (ap (λ ds. slice_get ds n) (sym es) ∙ there));
       }
 
   -- a cut only goes down
@@ -107,6 +112,14 @@ module _ (M : Meaning) where
             let p = h.pending n e le is low in
             record { request = p.request; there = set_elsewhere s.requests k e.1.request new (none n e le is) ∙ p.there; ask = p.ask; waits = p.waits };
         alone = h.alone;
+        own = λ n d is. let p = h.own n d is in elim (same_or_not d.request k) [
+          | inl same ↦ record {
+            request = new;
+            there = subst (λ i. slice_get (slice_set s.requests k new) i ≡ Some new) (sym same) (set_there s.requests k new r there);
+            send = subst (λ (u : Request). IsAwaitedSend M u.frame d) (same_element (slice_get s.requests k) p.request r (subst (λ i. slice_get s.requests i ≡ Some p.request) same p.there) there) p.send;
+          }
+          | inr other ↦ record { request = p.request; there = set_elsewhere s.requests k d.request new other ∙ p.there; send = p.send }
+        ];
       }
 
   given_found : (s : State) (k : ℕ) (x : Outside) (o : Option Request) (r : Request) → o ≡ Some r → given_more x o s.requests k ≡ slice_set s.requests k (record r { given = r.given ++ x ∷ [] })
@@ -220,6 +233,15 @@ module _ (M : Meaning) where
     apart n m e f le lt (inl a) (inr b) same = none_due n e le a (same ∙ ap (λ (x : ℕ × ListedSend). x.1.request) (sym b.1))
     apart n m e f le lt (inr a) (inr b) same = omega (arith, lt, a.0, b.0)
 
+    own_new : IsOwnSend M more d
+    own_new = record { request = l.request; there = l.there; send = record { given = l.request.given; fair = h.fair d.request l.request l.there; waits = l.waits } }
+
+    own_more : (n : ℕ) (f : ListedSend) → slice_get (s.sends ++ d ∷ []) n ≡ Some f → IsOwnSend M more f
+    own_more n f is = elim (there_or_new s.sends d n f is) [
+      | inl old ↦ same_own s more f refl (h.own n f old)
+      | inr last ↦ subst (IsOwnSend M more) last.1 own_new
+    ]
+
     sound_one : d.responds ≡ true → IsSound more
     sound_one b =
         record {
@@ -231,6 +253,7 @@ module _ (M : Meaning) where
           ];
           alone = λ n m e f le lt there also same.
               apart n m e f le lt (there_or_new (due s) new n e (ap (λ ds. slice_get ds n) (sym (due_one b)) ∙ there)) (there_or_new (due s) new m f (ap (λ ds. slice_get ds m) (sym (due_one b)) ∙ also)) same;
+          own = own_more;
         }
 
     sound_none : d.responds ≡ false → IsSound more
@@ -240,6 +263,7 @@ module _ (M : Meaning) where
           counted = subst (λ ds. s.answered ≤ length ds) (sym (due_none b)) h.counted;
           pending = λ n e le is low. same_pending s more e.1 refl (h.pending n e le (ap (λ ds. slice_get ds n) (sym (due_none b)) ∙ is) low);
           alone = λ n m e f le lt there also same. h.alone n m e f le lt (ap (λ ds. slice_get ds n) (sym (due_none b)) ∙ there) (ap (λ ds. slice_get ds m) (sym (due_none b)) ∙ also) same;
+          own = own_more;
         }
 
     silent_given : d.responds ≡ false → IsAwaited M (M.status l.request.frame l.request.given) NoResponse
@@ -279,6 +303,9 @@ module _ (M : Meaning) where
               let p = h.pending n e le is low in
               record { request = p.request; there = still_there s.requests new e.1.request p.request p.there; ask = p.ask; waits = p.waits };
           alone = h.alone;
+          own = λ n d there.
+              let p = h.own n d there in
+              record { request = p.request; there = still_there s.requests new d.request p.request p.there; send = p.send };
         }
     sound_joined frame (Some why) bytes is = sound_cut (length s.requests) (why (length s.requests)) s h
 
@@ -305,6 +332,7 @@ module _ (M : Meaning) where
             counted = omega (arith, inside (due s) s.answered e is);
             pending = λ n f le there low. same_pending s counted_on f.1 refl (h.pending n f (omega (arith, le)) there low);
             alone = λ n m f g le lt there also same. h.alone n m f g (omega (arith, le)) lt there also same;
+            own = λ n d there. same_own s counted_on d refl (h.own n d there);
           }
 
       sound_body : (why : Option (ℕ → End)) (body : List ℕ) → AreBytes body → M.unreadable e.1.before body ≡ why → below s.causes.cut e.1.request ≡ true → IsSound (read_body why e.1.request body counted_on)
@@ -455,9 +483,15 @@ module _ (M : Meaning) where
         counted = omega arith;
         pending = λ n e le is low. absurd (let z : None ≡ Some e = is in cc);
         alone = λ n m e f le lt there also same. let z : None ≡ Some e = there in cc;
+        own = λ n d there. absurd (let z : None ≡ Some d = there in cc);
       }
 
   pub all_fair : (hs : List Entry) (s : State) → IsHistory M hs s → AllBringBytes hs → All (IsFairRequest M) s.requests
   all_fair hs s run bytes =
       let h = sound_from opening s hs bytes run sound_opening in
       λ k r lt. h.fair k (get_or s.requests k r) (slice_get-get_or s.requests k r lt)
+
+  pub all_own : (hs : List Entry) (s : State) → IsHistory M hs s → AllBringBytes hs → All (IsOwnSend M s) s.sends
+  all_own hs s run bytes =
+      let h = sound_from opening s hs bytes run sound_opening in
+      λ k d lt. h.own k (get_or s.sends k d) (slice_get-get_or s.sends k d lt)

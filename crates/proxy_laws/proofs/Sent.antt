@@ -1,5 +1,5 @@
 -- What a client is sent in a history: the own responses of its first requests.
-use Rattle.std.proofs.Common.{◌≡◌, ◌∙◌, ap, refl, sym, subst, ℕ, zero, suc, List, [], ◌∷◌, ◌++◌, map, take, drop, append_assoc, arith}
+use Rattle.std.proofs.Common.{◌≡◌, ◌∙◌, ap, refl, sym, subst, ℕ, zero, suc, List, [], ◌∷◌, ◌++◌, map, take, drop, get_or, append_assoc, arith}
 use Rattle.std.specs.List.{All, AllByRecursion, AllZip, concat, flat_map}
 use Rattle.std.proofs.lemmas.List.{take-append-drop, map-append}
 use Rattle.std.proofs.lemmas.List.Elements.{All-tail}
@@ -13,9 +13,9 @@ use Rattle.conn_rules.proofs.Requests as rules
 use Rattle.conn_core.specs.Chained.{chained}
 use Rattle.conn_core.proofs.Lasting.{chain_lasts}
 use Rattle.proxy_laws.specs.Awaited.{IsFairRequest, AllBringBytes}
-use Rattle.proxy_laws.specs.OwnResponses.{IsOwnResponse, AreOwnResponses}
-use Rattle.proxy_laws.proofs.Connections.{responds_with_its_own}
-use Rattle.proxy_laws.proofs.Histories.{all_fair}
+use Rattle.proxy_laws.specs.OwnResponses.{IsOwnResponse, AreOwnResponses, AreMessageSends}
+use Rattle.proxy_laws.proofs.Connections.{responds_with_its_own, sends_fair_messages}
+use Rattle.proxy_laws.proofs.Histories.{all_fair, all_own}
 
 all_taken : {X : Type 0} (P : X → Type 0) (xs : List X) (n : ℕ) → All P xs → AllByRecursion P (take n xs)
 all_taken P xs zero all = tt
@@ -59,3 +59,9 @@ module _ (chain : List Turn) (limit : ℕ) (lawful : All IsLawful chain) where
         own = own_each rs (all_each (IsAnswered M) rs in_order.answered) (all_taken (IsFairRequest M) s.requests s.passed (all_fair M hs s run bytes));
         sent_is = in_order.sent_is ∙ joined_up (λ (r : Request). response_bytes (M.status r.frame r.given)) rs;
       }
+
+  pub message_sends : (hs : List Entry) (s : State) → IsHistory M hs s → AllBringBytes hs → AreMessageSends chain s
+  message_sends hs s run bytes =
+      λ k d lt.
+      let own = all_own M hs s run bytes k d lt in
+      (own.request, own.there, sends_fair_messages chain limit lawful own.request.frame (get_or s.sends k d) own.send)

@@ -1,10 +1,10 @@
 -- What a connection gives its requests: what each waits for, and nothing else.
-use Rattle.std.specs.Prelude.{◌≡◌, true, false, ℕ, List, [], ◌∷◌, ◌++◌, None, All}
+use Rattle.std.specs.Prelude.{◌≡◌, true, false, ℕ, List, [], ◌∷◌, ◌++◌, Some, None, All, slice_get}
 use Rattle.tree_spelling.specs.Laws.{AreBytes}
 use Rattle.conn_rules.specs.declared.event.Event.{Event}
 use Rattle.conn_rules.specs.declared.event.Event.TheVariants as event
 use Rattle.conn_rules.specs.Meaning.{Meaning, ToBroker, Hold, Status, Waits, Done, Fails}
-use Rattle.conn_rules.specs.State.{Outside, Body, NoResponse, Verdict, Request}
+use Rattle.conn_rules.specs.State.{Outside, Body, NoResponse, Verdict, Request, ListedSend, State}
 use Rattle.conn_rules.specs.History.{Entry}
 
 -- A request that waits for an answer gets a body that can be read, or none where its message gets no response. One that is held
@@ -33,6 +33,18 @@ pub record IsFairRequest (M : Meaning) (r : Request) : Type 0 where
   pub bytes : AreBytes r.frame
   pub is_request : M.no_request r.frame ≡ None
   pub awaited : AreAwaited M r.frame r.given
+
+-- The send is one whose answer, or want of it, the request in this frame waited for when it had been given so much.
+pub record IsAwaitedSend (M : Meaning) (frame : List ℕ) (d : ListedSend) : Type 0 where
+  pub given : List Outside
+  pub fair : IsFairRequest M (record { frame = frame; given = given })
+  pub waits : M.status frame given ≡ Waits (ToBroker d.before d.behind d.main d.responds)
+
+-- it is one of its own request's
+pub record IsOwnSend (M : Meaning) (s : State) (d : ListedSend) : Type 0 where
+  pub request : Request
+  pub there : slice_get s.requests d.request ≡ Some request
+  pub send : IsAwaitedSend M request.frame d
 
 -- the frames that an event brings are bytes
 abbrev pub BringsBytes : Event → Type 0

@@ -5,13 +5,14 @@ ghost use Rattle.conn_rules.specs.Meaning.{Meaning};
 ghost use Rattle.conn_rules.specs.State.{State};
 ghost use Rattle.conn_rules.specs.History.{Entry, IsHistory};
 ghost use Rattle.conn_core.specs.Chained.{chained};
-ghost use Rattle.proxy_laws.specs.Awaited.{IsFairRequest, AllBringBytes};
-ghost use Rattle.proxy_laws.specs.OwnResponses.{RespondsWithItsOwn, SendsFairMessages, AreOwnResponses};
+ghost use Rattle.proxy_laws.specs.Awaited.{IsFairRequest, IsOwnSend, AllBringBytes};
+ghost use Rattle.proxy_laws.specs.OwnResponses.{RespondsWithItsOwn, SendsFairMessages, AllComeToAnEnd, AreOwnResponses, AreMessageSends};
 
-/// Whatever comes, in whatever order, each request of a connection is given what it waits for, and nothing else. It is so
-/// under every meaning of requests.
+/// Whatever comes, in whatever order, each request of a connection is given what it waits for, and nothing else, and each send
+/// is one that its request waits for. It is so under every meaning of requests.
 pub fn awaited_law()
-    ensures { (M : Meaning) (hs : List Entry) (s : State) → IsHistory M hs s → AllBringBytes hs → All (IsFairRequest M) s.requests }
+    ensures requests { (M : Meaning) (hs : List Entry) (s : State) → IsHistory M hs s → AllBringBytes hs → All (IsFairRequest M) s.requests }
+    ensures sends { (M : Meaning) (hs : List Entry) (s : State) → IsHistory M hs s → AllBringBytes hs → All (IsOwnSend M s) s.sends }
 {}
 
 /// What a request gets, and what it sends, in a connection under a chain of lawful filters.
@@ -20,10 +21,14 @@ pub fn connection_laws()
     ensures own_response { (chain : List Turn) (limit : ℕ) → All IsLawful chain → RespondsWithItsOwn chain limit }
     // What goes to the broker is whole, of a supported API and version, and the request itself or asked aside.
     ensures fair_messages { (chain : List Turn) (limit : ℕ) → All IsLawful chain → SendsFairMessages chain limit }
+    // No filter goes on without an end.
+    ensures comes_to_an_end { (chain : List Turn) (limit : ℕ) → All IsLawful chain → AllComeToAnEnd chain limit }
 {}
 
-/// What a client is sent, in every history of a connection under a chain of lawful filters: for the first of its frames, one after
-/// another, its own response.
-pub fn own_responses_law()
-    ensures { (chain : List Turn) (limit : ℕ) (hs : List Entry) (s : State) → All IsLawful chain → IsHistory (chained chain limit) hs s → AllBringBytes hs → AreOwnResponses hs }
+/// What a client and a broker are sent, in every history of a connection under a chain of lawful filters.
+pub fn history_laws()
+    // For the first of its frames, one after another, the client is sent its own response.
+    ensures own_responses { (chain : List Turn) (limit : ℕ) (hs : List Entry) (s : State) → All IsLawful chain → IsHistory (chained chain limit) hs s → AllBringBytes hs → AreOwnResponses hs }
+    // Each send is a whole message of a supported API and version.
+    ensures message_sends { (chain : List Turn) (limit : ℕ) (hs : List Entry) (s : State) → All IsLawful chain → IsHistory (chained chain limit) hs s → AllBringBytes hs → AreMessageSends chain s }
 {}
