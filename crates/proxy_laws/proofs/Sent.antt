@@ -16,6 +16,7 @@ use Rattle.proxy_laws.specs.Awaited.{IsFairRequest, AllBringBytes}
 use Rattle.proxy_laws.specs.OwnResponses.{IsOwnResponse, AreOwnResponses, AreMessageSends}
 use Rattle.proxy_laws.proofs.Connections.{responds_with_its_own, sends_fair_messages}
 use Rattle.proxy_laws.proofs.Histories.{all_fair, all_own}
+use Rattle.proxy_laws.proofs.Taken.{sent_in_order}
 
 all_taken : {X : Type 0} (P : X → Type 0) (xs : List X) (n : ℕ) → All P xs → AllByRecursion P (take n xs)
 all_taken P xs zero all = tt
@@ -60,8 +61,11 @@ module _ (chain : List Turn) (limit : ℕ) (lawful : All IsLawful chain) where
         sent_is = in_order.sent_is ∙ joined_up (λ (r : Request). response_bytes (M.status r.frame r.given)) rs;
       }
 
-  pub message_sends : (hs : List Entry) (s : State) → IsHistory M hs s → AllBringBytes hs → AreMessageSends chain s
+  pub message_sends : (hs : List Entry) (s : State) → IsHistory M hs s → AllBringBytes hs → AreMessageSends chain hs s
   message_sends hs s run bytes =
-      λ k d lt.
-      let own = all_own M hs s run bytes k d lt in
-      (own.request, own.there, sends_fair_messages chain limit lawful own.request.frame (get_or s.sends k d) own.send)
+      record {
+        sent_is = sent_in_order M hs s run;
+        own = λ k d lt.
+            let own = all_own M hs s run bytes k d lt in
+            (own.request, own.there, sends_fair_messages chain limit lawful own.request.frame (get_or s.sends k d) own.send);
+      }

@@ -13,7 +13,7 @@ use Rattle.filter_chain.specs.Chain.{turns_on}
 use Rattle.filter_chain.specs.Outcomes.{Needs, Completed, run, turns}
 use Rattle.filter_probes.specs.Probes.{probe_heartbeat, metadata, heartbeat_error, probe_turn, probe_forwards_once, probe_ends, probe_forwards_same, probe_answered, probe_returns}
 use Rattle.proxy_laws.specs.Coming.{MayHaveCome}
-use Rattle.proxy_laws.specs.WorkedChain.{asks_then_changes, empty_cluster, metadata_came, heartbeat_came}
+use Rattle.proxy_laws.specs.WorkedChain.{worked_filters, empty_cluster, metadata_came, heartbeat_came}
 
 probe_is_lawful : (asks : Bool) (what times : ℕ) → IsLawful (probe_turn asks what times)
 probe_is_lawful asks what times =
@@ -25,22 +25,22 @@ probe_is_lawful asks what times =
       returns_an_answer = probe_returns asks what times;
     }
 
-pub lawful : All IsLawful asks_then_changes
+pub lawful : All IsLawful worked_filters
 lawful = All-cons IsLawful (probe_turn true 1 1) (probe_turn false 0 0 ∷ []) (probe_is_lawful true 1 1) (All-cons IsLawful (probe_turn false 0 0) [] (probe_is_lawful false 0 0) (All-nil IsLawful))
 
-pub asks_aside : run asks_then_changes probe_heartbeat [] ≡ Needs (ask.Broker metadata false)
+pub asks_aside : run worked_filters probe_heartbeat [] ≡ Needs (ask.Broker metadata false)
 unfolding turns_on
 asks_aside = refl
 
-pub sends_itself : run asks_then_changes probe_heartbeat (metadata_came ∷ []) ≡ Needs (ask.Broker probe_heartbeat true)
+pub sends_itself : run worked_filters probe_heartbeat (metadata_came ∷ []) ≡ Needs (ask.Broker probe_heartbeat true)
 unfolding turns_on
 sends_itself = refl
 
-pub completes : run asks_then_changes probe_heartbeat (metadata_came ∷ heartbeat_came ∷ []) ≡ Completed (Some (heartbeat_error (pos 77)))
+pub completes : run worked_filters probe_heartbeat (metadata_came ∷ heartbeat_came ∷ []) ≡ Completed (Some (heartbeat_error (pos 77)))
 unfolding turns_on
 completes = refl
 
-pub seven_turns : turns asks_then_changes probe_heartbeat (metadata_came ∷ heartbeat_came ∷ []) ≡ 7
+pub seven_turns : turns worked_filters probe_heartbeat (metadata_came ∷ heartbeat_came ∷ []) ≡ 7
 unfolding turns_on
 seven_turns = refl
 
@@ -58,13 +58,13 @@ cluster_answers = record { tree = cluster_tree; of = record { key_is = refl; ver
 heartbeat_answers : IsResponseTo probe_heartbeat (heartbeat_error (pos 0))
 heartbeat_answers = record { tree = heartbeat_tree; of = record { key_is = refl; version_is = refl; dir_is = refl } }
 
-pub may_come : MayHaveCome asks_then_changes probe_heartbeat (metadata_came ∷ heartbeat_came ∷ [])
+pub may_come : MayHaveCome worked_filters probe_heartbeat (metadata_came ∷ heartbeat_came ∷ [])
 unfolding turns_on
 may_come = (cluster_answers, (heartbeat_answers, tt))
 
 other_key : IsResponseTo metadata (heartbeat_error (pos 0)) → ⊥
 other_key h = let z : pos 12 ≡ pos 3 = h.of.key_is in cc
 
-pub in_no_other_order : MayHaveCome asks_then_changes probe_heartbeat (heartbeat_came ∷ metadata_came ∷ []) → ⊥
+pub in_no_other_order : MayHaveCome worked_filters probe_heartbeat (heartbeat_came ∷ metadata_came ∷ []) → ⊥
 unfolding turns_on
 in_no_other_order h = other_key h.0

@@ -1,5 +1,5 @@
 -- What a client gets for its request, under a chain of lawful filters.
-use Rattle.std.specs.Prelude.{◌≡◌, ◌≢◌, Bool, false, not, ℕ, List, [], ◌++◌, MatchBool, IsTrue, All, Some, slice_get}
+use Rattle.std.specs.Prelude.{◌≡◌, ◌≢◌, Bool, false, not, ℕ, suc, List, [], ◌∷◌, ◌++◌, take, MatchBool, IsTrue, All, Some, slice_get}
 use Rattle.std.specs.List.{AllZip, concat}
 use Rattle.kp_schema.specs.Messages.{is_supported}
 use Rattle.tree_spelling.specs.Body.{Contents}
@@ -13,8 +13,8 @@ use Rattle.filter_core.specs.Inputs.{IsWholeRequest, IsResponseTo}
 use Rattle.side_requests.specs.declared.ask.Ask.TheVariants as ask
 use Rattle.filter_chain.specs.Outcomes.{NeverEnds}
 use Rattle.conn_rules.specs.Meaning.{Done}
-use Rattle.conn_rules.specs.State.{Request, ListedSend, State}
-use Rattle.conn_rules.specs.History.{Entry, out, frames_taken, AreFirst}
+use Rattle.conn_rules.specs.State.{Request, ListedSend, State, upstream_frame}
+use Rattle.conn_rules.specs.History.{Entry, out, sent, frames_taken, AreFirst}
 use Rattle.conn_core.specs.Requests.{client_id_spelled, request_of, is_silent, is_told_versions, versions_told}
 use Rattle.conn_core.specs.Chained.{chained, chain_outcome}
 use Rattle.proxy_laws.specs.Awaited.{IsFairRequest, IsAwaitedSend}
@@ -59,9 +59,15 @@ abbrev pub AllComeToAnEnd : List Turn → ℕ → Type 0
 AllComeToAnEnd chain limit =
     (r : Request) (filter : ℕ) → IsFairRequest (chained chain limit) r → is_told_versions r.frame ≡ false → chain_outcome chain r.frame r.given ≢ NeverEnds filter
 
--- each send is one of its own request's
-abbrev pub AreMessageSends : List Turn → State → Type 0
-AreMessageSends chain s = All (λ d. (r : Request) × (slice_get s.requests d.request ≡ Some r) × IsMessageSend chain r.frame d) s.sends
+-- the frames of these sends as they go to the broker, the first of them with number j
+abbrev pub upstream_bytes : ℕ → List ListedSend → List ℕ
+upstream_bytes j [] = []
+upstream_bytes j (d ∷ ds) = upstream_frame j d ++ upstream_bytes (suc j) ds
+
+-- What the broker was sent: the first of the sends, one after another under their upstream ids. Each send is a message for its request.
+pub record AreMessageSends (chain : List Turn) (hs : List Entry) (s : State) : Type 0 where
+  pub sent_is : sent hs ≡ upstream_bytes 0 (take s.taken s.sends)
+  pub own : All (λ d. (r : Request) × (slice_get s.requests d.request ≡ Some r) × IsMessageSend chain r.frame d) s.sends
 
 -- What the client was sent: for the first of the frames that were taken from it, one after another, its own response.
 pub record AreOwnResponses (hs : List Entry) : Type 0 where

@@ -9,8 +9,8 @@ use Rattle.filter_chain.specs.declared.outside.Outside.{Outside}
 use Rattle.filter_chain.specs.declared.outside.Outside.TheVariants as outside
 use Rattle.filter_probes.specs.Probes.{heartbeat_error, probe_turn}
 
-abbrev pub asks_then_changes : List Turn
-asks_then_changes = probe_turn true 1 1 ∷ (probe_turn false 0 0 ∷ [])
+abbrev pub worked_filters : List Turn
+worked_filters = probe_turn true 1 1 ∷ (probe_turn false 0 0 ∷ [])
 
 -- a response to Metadata of version 4: no brokers and no topics
 abbrev pub empty_cluster : Contents

@@ -29,6 +29,6 @@ pub fn connection_laws()
 pub fn history_laws()
     // For the first of its frames, one after another, the client is sent its own response.
     ensures own_responses { (chain : List Turn) (limit : ℕ) (hs : List Entry) (s : State) → All IsLawful chain → IsHistory (chained chain limit) hs s → AllBringBytes hs → AreOwnResponses hs }
-    // Each send is a whole message of a supported API and version.
-    ensures message_sends { (chain : List Turn) (limit : ℕ) (hs : List Entry) (s : State) → All IsLawful chain → IsHistory (chained chain limit) hs s → AllBringBytes hs → AreMessageSends chain s }
+    // The broker is sent the sends in order, and each is a whole message of a supported API and version.
+    ensures message_sends { (chain : List Turn) (limit : ℕ) (hs : List Entry) (s : State) → All IsLawful chain → IsHistory (chained chain limit) hs s → AllBringBytes hs → AreMessageSends chain hs s }
 {}
