@@ -32,9 +32,9 @@ use Rattle.conn_core.specs.Chained.{taken_as, given_behind, given_to, most_out, 
 use Rattle.conn_core.proofs.Lasting.{given_later, done_is_completed}
 use Rattle.proxy_laws.specs.Coming.{MayMeet, ComeBehind, MayHaveCome}
 use Rattle.proxy_laws.specs.LawfulChains.{IsNeedOf}
-use Rattle.proxy_laws.specs.Awaited.{IsAwaited, AwaitedBehind, AreAwaited, IsFairRequest}
+use Rattle.proxy_laws.specs.Awaited.{IsAwaited, AwaitedBehind, AreAwaited, IsFairRequest, IsAwaitedSend}
 use Rattle.proxy_laws.specs.OwnResponses.{IsResponseFrame, RespondsWithItsOwn, IsFairMessage, IsMessageSend, SendsFairMessages, AllComeToAnEnd}
-use Rattle.proxy_laws.proofs.Requests.{own_response, whole_messages, comes_to_an_end}
+use Rattle.proxy_laws.proofs.Requests.{own_response, whole_messages, one_main_send, comes_to_an_end}
 use Rattle.proxy_laws.proofs.Supported.{supported_fits, key_again, version_again}
 
 -- ---- bodies that are read are trees
@@ -105,6 +105,10 @@ readable_response message bytes supported small e =
     let before = int16 message.key ++ int16 message.version in
     read_response message bytes small (cause_again (request_key before) (request_version before) message.key message.version bytes (key_again message.key message.version fits.0) (version_again message.key message.version fits.1) e)
 
+status_of : (chain : List Turn) (frame : List ℕ) (told : Bool) (o : Outcome) → told ≡ false → (if told then Done (versions_told frame) else outcome_status frame o) ≡ outcome_status frame o
+status_of chain frame true o e = absurd cc
+status_of chain frame false o e = refl
+
 -- ---- what was given is what may have come
 
 come_one_more : (chain : List Turn) (request : Contents) (start came : List chains.Outside) (x : chains.Outside) → ComeBehind chain request start came → MayMeet (run chain request (start ++ came)) x → ComeBehind chain request start (came ++ x ∷ [])
@@ -166,17 +170,13 @@ module _ (chain : List Turn) (limit : ℕ) (frame : List ℕ) where
     needs_supported : (came : List chains.Outside) → MayHaveCome chain request came → (message : Contents) (main : Bool) → run chain request came ≡ Needs (ask.Broker message main) → IsTrue (is_supported message.key message.version)
     needs_supported came may message main e = supported_need chain request message main (supported_request frame small is_request not_told) (whole_messages chain lawful request came (ask.Broker message main) whole may e)
 
-    status_of : (told : Bool) (o : Outcome) → told ≡ false → (if told then Done (versions_told frame) else outcome_status frame o) ≡ outcome_status frame o
-    status_of true o e = absurd cc
-    status_of false o e = refl
-
     come_from : (before : List Outside) (came : List chains.Outside) → given_to chain request before ≡ came → (xs : List Outside) → MayHaveCome chain request came → AwaitedBehind M frame before xs → MayHaveCome chain request (given_behind chain request came xs)
     come_from before came same [] may h = may
     come_from before came same (x ∷ xs) may h =
         let o = run chain request came in
         let y = taken_as o x in
         let awaited : IsAwaited M (outcome_status frame o) x =
-        subst (λ l. IsAwaited M (outcome_status frame (run chain request l)) x) same (subst (λ s. IsAwaited M s x) (status_of (is_told_versions frame) (run chain request (given_to chain request before)) not_told) h.0) in
+        subst (λ l. IsAwaited M (outcome_status frame (run chain request l)) x) same (subst (λ s. IsAwaited M s x) (status_of chain frame (is_told_versions frame) (run chain request (given_to chain request before)) not_told) h.0) in
         come_from (before ++ x ∷ []) (came ++ y ∷ []) (given_later chain request before (x ∷ []) [] ∙ ap (λ l. given_behind chain request l (x ∷ [])) same) xs
         (come_one_more chain request [] came y may (meets o x (needs_supported came may) awaited)) h.1
 
@@ -278,7 +278,45 @@ module _ (chain : List Turn) (limit : ℕ) (lawful : All IsLawful chain) where
   message_if frame d given fair false is e = message_send frame d given fair is e
 
   pub sends_fair_messages : SendsFairMessages chain limit
-  sends_fair_messages frame d send = message_if frame d send.given send.fair (is_told_versions frame) refl send.waits
+  sends_fair_messages frame given d send = message_if frame d given send.request (is_told_versions frame) refl send.waits
+
+  -- ---- a request has one main send
+
+  main_needed : (frame : List ℕ) (given : List Outside) (d : ListedSend) → IsAwaitedSend (chained chain limit) frame given d → is_told_versions frame ≡ false → d.main ≡ true
+      → (message : Contents) × (chain_outcome chain frame given ≡ Needs (ask.Broker message true))
+  main_needed frame given d send not_told main =
+      let status : outcome_status frame (chain_outcome chain frame given) ≡ Waits (ToBroker d.before d.behind d.main d.responds) = sym (status_of chain frame (is_told_versions frame) (chain_outcome chain frame given) not_told) ∙ send.waits in
+      let n = needing frame (chain_outcome chain frame given) d.before d.behind d.main d.responds status in
+      (n.message, n.needs ∙ ap (λ b. Needs (ask.Broker n.message b)) (sym n.parts.main_is ∙ main))
+
+  waits_is_request : (frame : List ℕ) (given : List Outside) (d : ListedSend) (told : Bool) → is_told_versions frame ≡ told
+      → (if told then Done (versions_told frame) else outcome_status frame (chain_outcome chain frame given)) ≡ Waits (ToBroker d.before d.behind d.main d.responds) → is_told_versions frame ≡ false
+  waits_is_request frame given d true is e = absurd (let z : Done (versions_told frame) ≡ Waits (ToBroker d.before d.behind d.main d.responds) = e in cc)
+  waits_is_request frame given d false is e = is
+
+  -- what more was given stands behind
+  in_front : (message : Contents) (given : List Outside) (before : List chains.Outside) → (more : List chains.Outside) × (given_behind chain message before given ≡ before ++ more)
+  in_front message [] before = ([], sym (append-nil before))
+  in_front message (x ∷ given) before =
+      let y = taken_as (run chain message before) x in
+      let r = in_front message given (before ++ y ∷ []) in
+      (y ∷ r.0, r.1 ∙ append_assoc before (y ∷ []) r.0)
+
+  pub no_second_main : (frame : List ℕ) (given : List Outside) (x : Outside) (more : List Outside) (d f : ListedSend) → IsAwaitedSend (chained chain limit) frame given d → IsAwaitedSend (chained chain limit) frame (given ++ x ∷ more) f
+      → d.main ≡ true → f.main ≡ true → ⊥
+  no_second_main frame given x more d f first second main again =
+      let not_told = waits_is_request frame given d (is_told_versions frame) refl first.waits in
+      let request = request_of frame in
+      let came = given_to chain request given in
+      let y = taken_as (run chain request came) x in
+      let rest = in_front request more (came ++ y ∷ []) in
+      let list : given_to chain request (given ++ x ∷ more) ≡ came ++ y ∷ rest.0 = given_later chain request given (x ∷ more) [] ∙ rest.1 ∙ append_assoc came (y ∷ []) rest.0 in
+      let small = first.request.bytes in
+      let is_request = first.request.is_request in
+      let may = given_come chain limit frame lawful small is_request not_told (given ++ x ∷ more) second.request.awaited in
+      let a = main_needed frame given d first not_told main in
+      let b = main_needed frame (given ++ x ∷ more) f second not_told again in
+      one_main_send chain lawful request came y rest.0 a.0 b.0 (whole_request frame small is_request not_told) (subst (MayHaveCome chain request) list may) a.1 (ap (run chain request) (sym list) ∙ b.1)
 
   pub all_come_to_an_end : AllComeToAnEnd chain limit
   all_come_to_an_end r filter fair not_told e =

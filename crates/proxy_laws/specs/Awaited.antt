@@ -1,5 +1,5 @@
 -- What a connection gives its requests: what each waits for, and nothing else.
-use Rattle.std.specs.Prelude.{◌≡◌, true, false, ℕ, List, [], ◌∷◌, ◌++◌, Some, None, All, slice_get}
+use Rattle.std.specs.Prelude.{◌≡◌, ◌<◌, true, false, ℕ, List, [], ◌∷◌, ◌++◌, length, Some, None, All, slice_get}
 use Rattle.tree_spelling.specs.Laws.{AreBytes}
 use Rattle.conn_rules.specs.declared.event.Event.{Event}
 use Rattle.conn_rules.specs.declared.event.Event.TheVariants as event
@@ -34,17 +34,25 @@ pub record IsFairRequest (M : Meaning) (r : Request) : Type 0 where
   pub is_request : M.no_request r.frame ≡ None
   pub awaited : AreAwaited M r.frame r.given
 
--- The send is one whose answer, or want of it, the request in this frame waited for when it had been given so much.
-pub record IsAwaitedSend (M : Meaning) (frame : List ℕ) (d : ListedSend) : Type 0 where
-  pub given : List Outside
-  pub fair : IsFairRequest M (record { frame = frame; given = given })
+-- The request in this frame, which was given so much, waited for what this send gets: a response, or that there is none.
+pub record IsAwaitedSend (M : Meaning) (frame : List ℕ) (given : List Outside) (d : ListedSend) : Type 0 where
+  pub request : IsFairRequest M (record { frame = frame; given = given })
   pub waits : M.status frame given ≡ Waits (ToBroker d.before d.behind d.main d.responds)
+  pub ask_is : d.ask ≡ length given
 
--- it is one of its own request's
+-- it is one of its own request's, by what that was given when the send was listed
 pub record IsOwnSend (M : Meaning) (s : State) (d : ListedSend) : Type 0 where
   pub request : Request
   pub there : slice_get s.requests d.request ≡ Some request
-  pub send : IsAwaitedSend M request.frame d
+  pub given : List Outside
+  pub since : List Outside
+  pub front : request.given ≡ given ++ since
+  pub send : IsAwaitedSend M request.frame given d
+
+-- no ask of a request is sent twice
+abbrev pub AreAsksApart : State → Type 0
+AreAsksApart s =
+    (n m : ℕ) (d f : ListedSend) → n < m → slice_get s.sends n ≡ Some d → slice_get s.sends m ≡ Some f → d.request ≡ f.request → d.ask ≡ f.ask → ⊥
 
 -- the frames that an event brings are bytes
 abbrev pub BringsBytes : Event → Type 0

@@ -1,5 +1,5 @@
 -- What a client gets for its request, under a chain of lawful filters.
-use Rattle.std.specs.Prelude.{◌≡◌, ◌≢◌, Bool, false, not, ℕ, suc, List, [], ◌∷◌, ◌++◌, take, MatchBool, IsTrue, All, Some, slice_get}
+use Rattle.std.specs.Prelude.{◌≡◌, ◌≢◌, ◌<◌, Bool, true, false, not, ℕ, suc, List, [], ◌∷◌, ◌++◌, take, MatchBool, IsTrue, All, Some, slice_get}
 use Rattle.std.specs.List.{AllZip, concat}
 use Rattle.kp_schema.specs.Messages.{is_supported}
 use Rattle.tree_spelling.specs.Body.{Contents}
@@ -13,7 +13,7 @@ use Rattle.filter_core.specs.Inputs.{IsWholeRequest, IsResponseTo}
 use Rattle.side_requests.specs.declared.ask.Ask.TheVariants as ask
 use Rattle.filter_chain.specs.Outcomes.{NeverEnds}
 use Rattle.conn_rules.specs.Meaning.{Done}
-use Rattle.conn_rules.specs.State.{Request, ListedSend, State, upstream_frame}
+use Rattle.conn_rules.specs.State.{Outside, Request, ListedSend, State, upstream_frame}
 use Rattle.conn_rules.specs.History.{Entry, out, sent, frames_taken, AreFirst}
 use Rattle.conn_core.specs.Requests.{client_id_spelled, request_of, is_silent, is_told_versions, versions_told}
 use Rattle.conn_core.specs.Chained.{chained, chain_outcome}
@@ -52,12 +52,17 @@ pub record IsMessageSend (chain : List Turn) (frame : List ℕ) (d : ListedSend)
   pub responds_is : d.responds ≡ not (has_acks_zero message)
 
 abbrev pub SendsFairMessages : List Turn → ℕ → Type 0
-SendsFairMessages chain limit = (frame : List ℕ) (d : ListedSend) → IsAwaitedSend (chained chain limit) frame d → IsMessageSend chain frame d
+SendsFairMessages chain limit = (frame : List ℕ) (given : List Outside) (d : ListedSend) → IsAwaitedSend (chained chain limit) frame given d → IsMessageSend chain frame d
 
 -- no request waits for a filter without an end
 abbrev pub AllComeToAnEnd : List Turn → ℕ → Type 0
 AllComeToAnEnd chain limit =
     (r : Request) (filter : ℕ) → IsFairRequest (chained chain limit) r → is_told_versions r.frame ≡ false → chain_outcome chain r.frame r.given ≢ NeverEnds filter
+
+-- a request goes to the broker itself once at most: it has one main send
+abbrev pub HaveOneMainSend : State → Type 0
+HaveOneMainSend s =
+    (n m : ℕ) (d f : ListedSend) → n < m → slice_get s.sends n ≡ Some d → slice_get s.sends m ≡ Some f → d.request ≡ f.request → d.main ≡ true → f.main ≡ true → ⊥
 
 -- the frames of these sends as they go to the broker, the first of them with number j
 abbrev pub upstream_bytes : ℕ → List ListedSend → List ℕ
@@ -67,6 +72,7 @@ upstream_bytes j (d ∷ ds) = upstream_frame j d ++ upstream_bytes (suc j) ds
 -- What the broker was sent: the first of the sends, one after another under their upstream ids. Each send is a message for its request.
 pub record AreMessageSends (chain : List Turn) (hs : List Entry) (s : State) : Type 0 where
   pub sent_is : sent hs ≡ upstream_bytes 0 (take s.taken s.sends)
+  pub one_main_send : HaveOneMainSend s
   pub own : All (λ d. (r : Request) × (slice_get s.requests d.request ≡ Some r) × IsMessageSend chain r.frame d) s.sends
 
 -- What the client was sent: for the first of the frames that were taken from it, one after another, its own response.

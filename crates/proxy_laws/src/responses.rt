@@ -5,14 +5,14 @@ ghost use Rattle.conn_rules.specs.Meaning.{Meaning};
 ghost use Rattle.conn_rules.specs.State.{State};
 ghost use Rattle.conn_rules.specs.History.{Entry, IsHistory};
 ghost use Rattle.conn_core.specs.Chained.{chained};
-ghost use Rattle.proxy_laws.specs.Awaited.{IsFairRequest, IsOwnSend, AllBringBytes};
+ghost use Rattle.proxy_laws.specs.Awaited.{IsFairRequest, IsOwnSend, AreAsksApart, AllBringBytes};
 ghost use Rattle.proxy_laws.specs.OwnResponses.{RespondsWithItsOwn, SendsFairMessages, AllComeToAnEnd, AreOwnResponses, AreMessageSends};
 
-/// Whatever comes, in whatever order, each request of a connection is given what it waits for, and nothing else, and each send
-/// is one that its request waits for. It is so under every meaning of requests.
+/// Whatever comes, in whatever order, each request of a connection is given what it waits for, and nothing else. Each send is
+/// one that its request waited for, and none is sent twice. It is so under every meaning of requests.
 pub fn awaited_law()
     ensures requests { (M : Meaning) (hs : List Entry) (s : State) → IsHistory M hs s → AllBringBytes hs → All (IsFairRequest M) s.requests }
-    ensures sends { (M : Meaning) (hs : List Entry) (s : State) → IsHistory M hs s → AllBringBytes hs → All (IsOwnSend M s) s.sends }
+    ensures sends { (M : Meaning) (hs : List Entry) (s : State) → IsHistory M hs s → AllBringBytes hs → All (IsOwnSend M s) s.sends × AreAsksApart s }
 {}
 
 /// What a request gets, and what it sends, in a connection under a chain of lawful filters.
@@ -29,6 +29,7 @@ pub fn connection_laws()
 pub fn history_laws()
     // For the first of its frames, one after another, the client is sent its own response.
     ensures own_responses { (chain : List Turn) (limit : ℕ) (hs : List Entry) (s : State) → All IsLawful chain → IsHistory (chained chain limit) hs s → AllBringBytes hs → AreOwnResponses hs }
-    // The broker is sent the sends in order, and each is a whole message of a supported API and version.
+    // The broker is sent the sends in order. Each is a whole message of a supported API and version, and a request itself is sent
+    // once at most.
     ensures message_sends { (chain : List Turn) (limit : ℕ) (hs : List Entry) (s : State) → All IsLawful chain → IsHistory (chained chain limit) hs s → AllBringBytes hs → AreMessageSends chain hs s }
 {}

@@ -1,8 +1,8 @@
-use Rattle.proxy_laws.proofs.Histories.{all_fair, all_own}
+use Rattle.proxy_laws.proofs.Histories.{all_fair, all_own, all_apart}
 use Rattle.proxy_laws.proofs.responses.awaited_law.Goals as goal
 
 pub returns-clause-requests : goal.returns-clause-requests
 returns-clause-requests c = all_fair
 
 pub returns-clause-sends : goal.returns-clause-sends
-returns-clause-sends c = all_own
+returns-clause-sends c = λ M hs s run bytes. (all_own M hs s run bytes, all_apart M hs s run bytes)
