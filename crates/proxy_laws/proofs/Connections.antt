@@ -30,10 +30,10 @@ use Rattle.conn_rules.specs.State.{Outside, Body, NoResponse, Verdict, ListedSen
 use Rattle.conn_core.specs.Requests.{client_id_spelled, request_of, request_body, request_decoded, client_id_length, is_silent, is_told_versions, versions_told, body_cause, frame_cause, answer_cause, response_decoded, response_read, items_read}
 use Rattle.conn_core.specs.Chained.{taken_as, given_behind, given_to, most_out, grown_past, message_size, sent_for, responded, response_body, outcome_status, chain_outcome, chained}
 use Rattle.conn_core.proofs.Lasting.{given_later, done_is_completed}
-use Rattle.proxy_laws.specs.Coming.{MayMeet, ComeBehind, MayHaveCome}
+use Rattle.proxy_laws.specs.Coming.{MayBeGiven, MayHaveComeBehind, MayHaveCome}
 use Rattle.proxy_laws.specs.LawfulChains.{IsNeedOf}
-use Rattle.proxy_laws.specs.Awaited.{IsAwaited, AwaitedBehind, AreAwaited, IsFairRequest, IsAwaitedSend}
-use Rattle.proxy_laws.specs.OwnResponses.{IsResponseFrame, RespondsWithItsOwn, IsFairMessage, IsMessageSend, SendsFairMessages, AllComeToAnEnd}
+use Rattle.proxy_laws.specs.Awaited.{IsAwaited, AwaitedBehind, AreAwaited, IsGivenAsAwaited, IsAwaitedSend}
+use Rattle.proxy_laws.specs.OwnResponses.{IsResponseFrame, DoneWithOwnResponse, IsMessageFor, IsMessageSend, SendsWholeMessages, AllComeToAnEnd}
 use Rattle.proxy_laws.proofs.Requests.{own_response, whole_messages, one_main_send, comes_to_an_end}
 use Rattle.proxy_laws.proofs.Supported.{supported_fits, key_again, version_again}
 
@@ -111,10 +111,10 @@ status_of chain frame false o e = refl
 
 -- ---- what was given is what may have come
 
-come_one_more : (chain : List Turn) (request : Contents) (start came : List chains.Outside) (x : chains.Outside) → ComeBehind chain request start came → MayMeet (run chain request (start ++ came)) x → ComeBehind chain request start (came ++ x ∷ [])
-come_one_more chain request start [] x h may = (subst (λ l. MayMeet (run chain request l) x) (append-nil start) may, tt)
+come_one_more : (chain : List Turn) (request : Contents) (start came : List chains.Outside) (x : chains.Outside) → MayHaveComeBehind chain request start came → MayBeGiven (run chain request (start ++ came)) x → MayHaveComeBehind chain request start (came ++ x ∷ [])
+come_one_more chain request start [] x h may = (subst (λ l. MayBeGiven (run chain request l) x) (append-nil start) may, tt)
 come_one_more chain request start (y ∷ came) x h may =
-    (h.0, come_one_more chain request (start ++ y ∷ []) came x h.1 (subst (λ l. MayMeet (run chain request l) x) (sym (append_assoc start (y ∷ []) came)) may))
+    (h.0, come_one_more chain request (start ++ y ∷ []) came x h.1 (subst (λ l. MayBeGiven (run chain request l) x) (sym (append_assoc start (y ∷ []) came)) may))
 
 supported_need : (chain : List Turn) (request message : Contents) (main : Bool) → IsTrue (is_supported request.key request.version) → IsNeedOf chain request (ask.Broker message main) → IsTrue (is_supported message.key message.version)
 supported_need chain request message true supported need = subst (λ k. IsTrue (is_supported k message.version)) (sym need.same_key) (subst (λ v. IsTrue (is_supported request.key v)) (sym need.same_version) supported)
@@ -141,17 +141,17 @@ module _ (chain : List Turn) (limit : ℕ) (frame : List ℕ) where
   nothing_awaited false true size response x h = h
   nothing_awaited false false size response x h = h
 
-  meets_message : (message : Contents) (main : Bool) (x : Outside) → IsTrue (is_supported message.key message.version) → IsAwaited M (sent_for frame message main) x → MayMeet (Needs (ask.Broker message main)) (taken_as (Needs (ask.Broker message main)) x)
+  meets_message : (message : Contents) (main : Bool) (x : Outside) → IsTrue (is_supported message.key message.version) → IsAwaited M (sent_for frame message main) x → MayBeGiven (Needs (ask.Broker message main)) (taken_as (Needs (ask.Broker message main)) x)
   meets_message message main (Body bytes) supported h = readable_response message bytes supported h.1 h.2
   meets_message message main NoResponse supported h = not_false (has_acks_zero message) h
   meets_message message main (Verdict bytes) supported h = absurd h
 
-  meets_hold : (filter : ℕ) (key : List ℕ) (x : Outside) → IsAwaited M (outcome_status frame (Needs (ask.Hold filter key))) x → MayMeet (Needs (ask.Hold filter key)) (taken_as (Needs (ask.Hold filter key)) x)
+  meets_hold : (filter : ℕ) (key : List ℕ) (x : Outside) → IsAwaited M (outcome_status frame (Needs (ask.Hold filter key))) x → MayBeGiven (Needs (ask.Hold filter key)) (taken_as (Needs (ask.Hold filter key)) x)
   meets_hold filter key (Body bytes) h = absurd h
   meets_hold filter key NoResponse h = absurd h
   meets_hold filter key (Verdict bytes) h = tt
 
-  meets : (o : Outcome) (x : Outside) → ((message : Contents) (main : Bool) → o ≡ Needs (ask.Broker message main) → IsTrue (is_supported message.key message.version)) → IsAwaited M (outcome_status frame o) x → MayMeet o (taken_as o x)
+  meets : (o : Outcome) (x : Outside) → ((message : Contents) (main : Bool) → o ≡ Needs (ask.Broker message main) → IsTrue (is_supported message.key message.version)) → IsAwaited M (outcome_status frame o) x → MayBeGiven o (taken_as o x)
   meets (Needs (ask.Broker message main)) x supported h =
       meets_message message main x (supported message main refl) (awaited_sent message main (nat_le (message_size frame message) most_out) (message_size frame message) x h)
   meets (Needs (ask.Hold filter key)) x supported h = meets_hold filter key x h
@@ -201,8 +201,8 @@ module _ (chain : List Turn) (limit : ℕ) (frame : List ℕ) where
         let d = done_is_completed frame (chain_outcome chain frame given) response e in
         own_or_silent (is_silent frame) d.0 response refl (own_response chain lawful request (given_to chain request given) d.0 whole (given_come given awaited) d.1) (sym (ap (outcome_status frame) d.1) ∙ e)
 
-    pub fair_message : (given : List Outside) (message : Contents) (main : Bool) → AreAwaited M frame given → chain_outcome chain frame given ≡ Needs (ask.Broker message main) → IsFairMessage chain frame message main
-    fair_message given message main awaited e =
+    pub message_for : (given : List Outside) (message : Contents) (main : Bool) → AreAwaited M frame given → chain_outcome chain frame given ≡ Needs (ask.Broker message main) → IsMessageFor chain frame message main
+    message_for given message main awaited e =
         let may = given_come given awaited in
         let need = whole_messages chain lawful request (given_to chain request given) (ask.Broker message main) whole may e in
         record { whole = whole_need chain request main message need; supported = needs_supported (given_to chain request given) may message main e; need = need }
@@ -213,8 +213,8 @@ module _ (chain : List Turn) (limit : ℕ) (frame : List ℕ) where
   own_either lawful small is_request given awaited response true is e = cc
   own_either lawful small is_request given awaited response false is e = own_completed lawful small is_request is given response awaited e
 
-pub responds_with_its_own : (chain : List Turn) (limit : ℕ) → All IsLawful chain → RespondsWithItsOwn chain limit
-responds_with_its_own chain limit lawful r response fair e = own_either chain limit r.frame lawful fair.bytes fair.is_request r.given fair.awaited response (is_told_versions r.frame) refl e
+pub done_with_own_response : (chain : List Turn) (limit : ℕ) → All IsLawful chain → DoneWithOwnResponse chain limit
+done_with_own_response chain limit lawful r response fair e = own_either chain limit r.frame lawful fair.bytes fair.is_request r.given fair.awaited response (is_told_versions r.frame) refl e
 
 -- ---- what goes to the broker
 
@@ -260,25 +260,25 @@ needing frame (Shuts cause) before behind main responds e = absurd cc
 needing frame (NeverEnds filter) before behind main responds e = absurd cc
 
 module _ (chain : List Turn) (limit : ℕ) (lawful : All IsLawful chain) where
-  message_send : (frame : List ℕ) (d : ListedSend) (given : List Outside) → IsFairRequest (chained chain limit) (record { frame = frame; given = given }) → is_told_versions frame ≡ false
+  message_send : (frame : List ℕ) (d : ListedSend) (given : List Outside) → IsGivenAsAwaited (chained chain limit) (record { frame = frame; given = given }) → is_told_versions frame ≡ false
       → outcome_status frame (chain_outcome chain frame given) ≡ Waits (ToBroker d.before d.behind d.main d.responds) → IsMessageSend chain frame d
   message_send frame d given fair not_told e =
       let n = needing frame (chain_outcome chain frame given) d.before d.behind d.main d.responds e in
       record {
         message = n.message;
-        fair = subst (IsFairMessage chain frame n.message) (sym n.parts.main_is) (fair_message chain limit frame lawful fair.bytes fair.is_request not_told given n.message n.asked fair.awaited n.needs);
+        is_for = subst (IsMessageFor chain frame n.message) (sym n.parts.main_is) (message_for chain limit frame lawful fair.bytes fair.is_request not_told given n.message n.asked fair.awaited n.needs);
         before_is = n.parts.before_is;
         behind_is = n.parts.behind_is;
         responds_is = n.parts.responds_is;
       }
 
-  message_if : (frame : List ℕ) (d : ListedSend) (given : List Outside) → IsFairRequest (chained chain limit) (record { frame = frame; given = given }) → (told : Bool) → is_told_versions frame ≡ told
+  message_if : (frame : List ℕ) (d : ListedSend) (given : List Outside) → IsGivenAsAwaited (chained chain limit) (record { frame = frame; given = given }) → (told : Bool) → is_told_versions frame ≡ told
       → (if told then Done (versions_told frame) else outcome_status frame (chain_outcome chain frame given)) ≡ Waits (ToBroker d.before d.behind d.main d.responds) → IsMessageSend chain frame d
   message_if frame d given fair true is e = absurd (let z : Done (versions_told frame) ≡ Waits (ToBroker d.before d.behind d.main d.responds) = e in cc)
   message_if frame d given fair false is e = message_send frame d given fair is e
 
-  pub sends_fair_messages : SendsFairMessages chain limit
-  sends_fair_messages frame given d send = message_if frame d given send.request (is_told_versions frame) refl send.waits
+  pub sends_whole_messages : SendsWholeMessages chain limit
+  sends_whole_messages frame given d send = message_if frame d given send.request (is_told_versions frame) refl send.waits
 
   -- ---- a request has one main send
 

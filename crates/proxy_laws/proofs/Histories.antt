@@ -23,7 +23,7 @@ use Rattle.conn_rules.specs.Causes.{below, cut_cause, with_cut, client_ended, br
 use Rattle.conn_rules.specs.Settling.{Act, CutAt, Lists, is_listed, lets_later_go, act_of, or_else, act_from, next_act, listed, acted, after_acts}
 use Rattle.conn_rules.specs.Steps.{joined, read_body, matched, attributed, answer_step, hold_of, hold_in, open_hold, is_hold, complete_step, client_end, faulted, noted, sent_next, first_hold, picked_next, response_in, silent_passed, over_or, respond_or, told_again, emit_step, answer_to, StepOrNoMemory}
 use Rattle.conn_rules.specs.History.{Entry, LeadsTo, IsHistory}
-use Rattle.proxy_laws.specs.Awaited.{IsAwaited, AwaitedBehind, IsFairRequest, IsAwaitedSend, IsOwnSend, AreAsksApart, BringsBytes, AllBringBytes}
+use Rattle.proxy_laws.specs.Awaited.{IsAwaited, AwaitedBehind, IsGivenAsAwaited, IsAwaitedSend, IsOwnSend, AreAskedOnce, BringsBytes, AllBringBytes}
 use Rattle.proxy_laws.proofs.Lists.{if_responding, still_there, there_or_new, set_there, set_elsewhere, same_element, inside, same_or_not, respond_taken, respond_more, respond_listed, present_listed}
 
 module _ (M : Meaning) where
@@ -39,12 +39,12 @@ module _ (M : Meaning) where
 
   -- at every moment
   record IsSound (s : State) : Type 0 where
-    fair : (k : ℕ) (r : Request) → slice_get s.requests k ≡ Some r → IsFairRequest M r
+    fair : (k : ℕ) (r : Request) → slice_get s.requests k ≡ Some r → IsGivenAsAwaited M r
     counted : s.answered ≤ length (due s)
     pending : (n : ℕ) (e : ℕ × ListedSend) → s.answered ≤ n → slice_get (due s) n ≡ Some e → below s.causes.cut e.1.request ≡ true → IsPending s e.1
     alone : (n m : ℕ) (e f : ℕ × ListedSend) → s.answered ≤ n → n < m → slice_get (due s) n ≡ Some e → slice_get (due s) m ≡ Some f → e.1.request ≡ f.1.request → ⊥
     own : (n : ℕ) (d : ListedSend) → slice_get s.sends n ≡ Some d → IsOwnSend M s d
-    apart : AreAsksApart s
+    apart : AreAskedOnce s
 
   -- ---- what doesn't matter
 
@@ -60,7 +60,7 @@ module _ (M : Meaning) where
   same_own : (s t : State) (d : ListedSend) → t.requests ≡ s.requests → IsOwnSend M s d → IsOwnSend M t d
   same_own s t d e p = own_there s t d p (ap (λ rs. slice_get rs d.request) e ∙ p.there)
 
-  apart_same : (s t : State) → t.sends ≡ s.sends → AreAsksApart s → AreAsksApart t
+  apart_same : (s t : State) → t.sends ≡ s.sends → AreAskedOnce s → AreAskedOnce t
   apart_same s t e h n m d f lt a b same ask = h n m d f lt (ap (λ ds. slice_get ds n) (sym e) ∙ a) (ap (λ ds. slice_get ds m) (sym e) ∙ b) same ask
 
   sound_same : (s t : State) → t.requests ≡ s.requests → t.sends ≡ s.sends → t.answered ≡ s.answered → IsLower s t → IsSound s → IsSound t
@@ -102,7 +102,7 @@ module _ (M : Meaning) where
   awaited_more frame before (y ∷ given) x h may =
       (h.0, awaited_more frame (before ++ y ∷ []) given x h.1 (subst (λ l. IsAwaited M (M.status frame l) x) (sym (append_assoc before (y ∷ []) given)) may))
 
-  fair_more : (r : Request) (x : Outside) → IsFairRequest M r → IsAwaited M (M.status r.frame r.given) x → IsFairRequest M (record r { given = r.given ++ x ∷ [] })
+  fair_more : (r : Request) (x : Outside) → IsGivenAsAwaited M r → IsAwaited M (M.status r.frame r.given) x → IsGivenAsAwaited M (record r { given = r.given ++ x ∷ [] })
   fair_more r x h may = record { bytes = h.bytes; is_request = h.is_request; awaited = awaited_more r.frame [] r.given x h.awaited may }
 
   own_later : (s t : State) (d : ListedSend) (p : IsOwnSend M s d) (r : Request) (x : Outside) → p.request ≡ r → slice_get t.requests d.request ≡ Some (record r { given = r.given ++ x ∷ [] }) → IsOwnSend M t d
@@ -123,7 +123,7 @@ module _ (M : Meaning) where
       let new : Request = record r { given = r.given ++ x ∷ [] } in
       record {
         fair = λ j t is. elim (same_or_not j k) [
-          | inl same ↦ subst (IsFairRequest M) (same_element (slice_get (slice_set s.requests k new) k) new t (set_there s.requests k new r there) (subst (λ i. slice_get (slice_set s.requests k new) i ≡ Some t) same is)) (fair_more r x (h.fair k r there) may)
+          | inl same ↦ subst (IsGivenAsAwaited M) (same_element (slice_get (slice_set s.requests k new) k) new t (set_there s.requests k new r there) (subst (λ i. slice_get (slice_set s.requests k new) i ≡ Some t) same is)) (fair_more r x (h.fair k r there) may)
           | inr other ↦ h.fair j t (sym (set_elsewhere s.requests k j new other) ∙ is)
         ];
         counted = h.counted;
@@ -132,10 +132,10 @@ module _ (M : Meaning) where
             record { request = p.request; there = set_elsewhere s.requests k e.1.request new (none n e le is) ∙ p.there; ask = p.ask; waits = p.waits };
         alone = h.alone;
         own = λ n d is. let p = h.own n d is in elim (same_or_not d.request k) [
-          inl same ↦
-            own_later s (record s { requests = slice_set s.requests k new }) d p r x
-            (same_element (slice_get s.requests k) p.request r (subst (λ i. slice_get s.requests i ≡ Some p.request) same p.there) there)
-            (subst (λ i. slice_get (slice_set s.requests k new) i ≡ Some new) (sym same) (set_there s.requests k new r there))
+          | inl same ↦
+              own_later s (record s { requests = slice_set s.requests k new }) d p r x
+              (same_element (slice_get s.requests k) p.request r (subst (λ i. slice_get s.requests i ≡ Some p.request) same p.there) there)
+              (subst (λ i. slice_get (slice_set s.requests k new) i ≡ Some new) (sym same) (set_there s.requests k new r there))
           | inr other ↦ own_there s (record s { requests = slice_set s.requests k new }) d p (set_elsewhere s.requests k d.request new other ∙ p.there)
         ];
         apart = h.apart;
@@ -276,7 +276,7 @@ module _ (M : Meaning) where
     asks_apart n m e f lt (inl a) (inr b) same ask = not_sent n e a (same ∙ ap (λ (x : ListedSend). x.request) (sym b.1)) (ask ∙ ap (λ (x : ListedSend). x.ask) (sym b.1))
     asks_apart n m e f lt (inr a) (inr b) same ask = omega (arith, lt, a.0, b.0)
 
-    more_apart : AreAsksApart more
+    more_apart : AreAskedOnce more
     more_apart n m e f lt a b same ask = asks_apart n m e f lt (there_or_new s.sends d n e a) (there_or_new s.sends d m f b) same ask
 
     own_more : (n : ℕ) (f : ListedSend) → slice_get (s.sends ++ d ∷ []) n ≡ Some f → IsOwnSend M more f
@@ -341,7 +341,7 @@ module _ (M : Meaning) where
         record {
           fair = λ k r there. elim (there_or_new s.requests new k r there) [
             | inl old ↦ h.fair k r old
-            | inr last ↦ subst (IsFairRequest M) last.1 (record { bytes = bytes; is_request = is; awaited = tt })
+            | inr last ↦ subst (IsGivenAsAwaited M) last.1 (record { bytes = bytes; is_request = is; awaited = tt })
           ];
           counted = h.counted;
           pending = λ n e le is low.
@@ -532,7 +532,7 @@ module _ (M : Meaning) where
         apart = λ n m d f lt there also same ask. let z : None ≡ Some d = there in cc;
       }
 
-  pub all_fair : (hs : List Entry) (s : State) → IsHistory M hs s → AllBringBytes hs → All (IsFairRequest M) s.requests
+  pub all_fair : (hs : List Entry) (s : State) → IsHistory M hs s → AllBringBytes hs → All (IsGivenAsAwaited M) s.requests
   all_fair hs s run bytes =
       let h = sound_from opening s hs bytes run sound_opening in
       λ k r lt. h.fair k (get_or s.requests k r) (slice_get-get_or s.requests k r lt)
@@ -542,7 +542,7 @@ module _ (M : Meaning) where
       let h = sound_from opening s hs bytes run sound_opening in
       λ k d lt. h.own k (get_or s.sends k d) (slice_get-get_or s.sends k d lt)
 
-  pub all_apart : (hs : List Entry) (s : State) → IsHistory M hs s → AllBringBytes hs → AreAsksApart s
+  pub all_apart : (hs : List Entry) (s : State) → IsHistory M hs s → AllBringBytes hs → AreAskedOnce s
   all_apart hs s run bytes = (sound_from opening s hs bytes run sound_opening).apart
 
   pub own_at : (hs : List Entry) (s : State) → IsHistory M hs s → AllBringBytes hs → (n : ℕ) (d : ListedSend) → slice_get s.sends n ≡ Some d → IsOwnSend M s d

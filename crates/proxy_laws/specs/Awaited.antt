@@ -29,14 +29,14 @@ abbrev pub AreAwaited : Meaning → List ℕ → List Outside → Type 0
 AreAwaited M frame given = AwaitedBehind M frame [] given
 
 -- the frame is a request, and was given what it waited for
-pub record IsFairRequest (M : Meaning) (r : Request) : Type 0 where
+pub record IsGivenAsAwaited (M : Meaning) (r : Request) : Type 0 where
   pub bytes : AreBytes r.frame
   pub is_request : M.no_request r.frame ≡ None
   pub awaited : AreAwaited M r.frame r.given
 
 -- The request in this frame, which was given so much, waited for what this send gets: a response, or that there is none.
 pub record IsAwaitedSend (M : Meaning) (frame : List ℕ) (given : List Outside) (d : ListedSend) : Type 0 where
-  pub request : IsFairRequest M (record { frame = frame; given = given })
+  pub request : IsGivenAsAwaited M (record { frame = frame; given = given })
   pub waits : M.status frame given ≡ Waits (ToBroker d.before d.behind d.main d.responds)
   pub ask_is : d.ask ≡ length given
 
@@ -50,8 +50,8 @@ pub record IsOwnSend (M : Meaning) (s : State) (d : ListedSend) : Type 0 where
   pub send : IsAwaitedSend M request.frame given d
 
 -- no ask of a request is sent twice
-abbrev pub AreAsksApart : State → Type 0
-AreAsksApart s =
+abbrev pub AreAskedOnce : State → Type 0
+AreAskedOnce s =
     (n m : ℕ) (d f : ListedSend) → n < m → slice_get s.sends n ≡ Some d → slice_get s.sends m ≡ Some f → d.request ≡ f.request → d.ask ≡ f.ask → ⊥
 
 -- the frames that an event brings are bytes

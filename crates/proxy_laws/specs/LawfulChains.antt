@@ -13,8 +13,8 @@ use Rattle.filter_chain.specs.Outcomes.{Needs, Completed, Shuts, NeverEnds, run,
 use Rattle.proxy_laws.specs.Coming.{MayHaveCome}
 
 -- A completed request has a response of its own API and version, or none where it is a Produce with acks 0.
-abbrev pub CompletesWithItsOwn : List Turn → Type 0
-CompletesWithItsOwn chain =
+abbrev pub CompletesWithOwnResponse : List Turn → Type 0
+CompletesWithOwnResponse chain =
     (request : Contents) (given : List Outside) (response : Option Contents) → IsWholeRequest request → MayHaveCome chain request given
     → run chain request given ≡ Completed response → AnswersRequest request response
 
@@ -42,8 +42,8 @@ ComesToAnEnd chain =
     (request : Contents) (given : List Outside) (filter : ℕ) → IsWholeRequest request → MayHaveCome chain request given
     → run chain request given ≢ NeverEnds filter
 
-abbrev pub ShutsByItsOwn : List Turn → Type 0
-ShutsByItsOwn chain =
+abbrev pub IsShutByOwnFilter : List Turn → Type 0
+IsShutByOwnFilter chain =
     (request : Contents) (given : List Outside) (filter : ℕ) (reason : Reason) → IsWholeRequest request → MayHaveCome chain request given
     → run chain request given ≡ Shuts (cause.Filter filter reason) → filter < length chain
 

@@ -12,12 +12,12 @@ use Rattle.filter_core.specs.Decision.{Turn}
 use Rattle.filter_core.specs.Inputs.{IsWholeRequest, IsResponseTo}
 use Rattle.side_requests.specs.declared.ask.Ask.TheVariants as ask
 use Rattle.filter_chain.specs.Outcomes.{NeverEnds}
-use Rattle.conn_rules.specs.Meaning.{Done}
+use Rattle.conn_rules.specs.Meaning.{Meaning, Done}
 use Rattle.conn_rules.specs.State.{Outside, Request, ListedSend, State, upstream_frame}
-use Rattle.conn_rules.specs.History.{Entry, out, sent, frames_taken, AreFirst}
+use Rattle.conn_rules.specs.History.{Entry, response_bytes, out, sent, frames_taken, AreFirst}
 use Rattle.conn_core.specs.Requests.{client_id_spelled, request_of, is_silent, is_told_versions, versions_told}
 use Rattle.conn_core.specs.Chained.{chained, chain_outcome}
-use Rattle.proxy_laws.specs.Awaited.{IsFairRequest, IsAwaitedSend}
+use Rattle.proxy_laws.specs.Awaited.{IsGivenAsAwaited, IsAwaitedSend}
 use Rattle.proxy_laws.specs.LawfulChains.{IsNeedOf}
 
 -- the frame of a response: the client's own correlation id, and a body of the request's API and version, whole
@@ -31,14 +31,14 @@ IsOwnResponse frame response =
     MatchBool (is_told_versions frame) (response ≡ versions_told frame) (MatchBool (is_silent frame) (response ≡ []) (IsResponseFrame frame response))
 
 -- each request that is done, in a connection under this chain, has its own response
-abbrev pub RespondsWithItsOwn : List Turn → ℕ → Type 0
-RespondsWithItsOwn chain limit =
-    (r : Request) (response : List ℕ) → IsFairRequest (chained chain limit) r
+abbrev pub DoneWithOwnResponse : List Turn → ℕ → Type 0
+DoneWithOwnResponse chain limit =
+    (r : Request) (response : List ℕ) → IsGivenAsAwaited (chained chain limit) r
     → (chained chain limit).status r.frame r.given ≡ Done response → IsOwnResponse r.frame response
 
 -- What a request sends to the broker: a whole message of a supported API and version, which is the request itself, with other fields
 -- at most, or is asked aside.
-pub record IsFairMessage (chain : List Turn) (frame : List ℕ) (message : Contents) (main : Bool) : Type 0 where
+pub record IsMessageFor (chain : List Turn) (frame : List ℕ) (message : Contents) (main : Bool) : Type 0 where
   pub whole : IsWholeRequest message
   pub supported : IsTrue (is_supported message.key message.version)
   pub need : IsNeedOf chain (request_of frame) (ask.Broker message main)
@@ -46,18 +46,18 @@ pub record IsFairMessage (chain : List Turn) (frame : List ℕ) (message : Conte
 -- the send is such a message, under its own API and version, and with the client's own id before its body
 pub record IsMessageSend (chain : List Turn) (frame : List ℕ) (d : ListedSend) : Type 0 where
   pub message : Contents
-  pub fair : IsFairMessage chain frame message d.main
+  pub is_for : IsMessageFor chain frame message d.main
   pub before_is : d.before ≡ int16 message.key ++ int16 message.version
   pub behind_is : d.behind ≡ client_id_spelled frame ++ spelling message.items
   pub responds_is : d.responds ≡ not (has_acks_zero message)
 
-abbrev pub SendsFairMessages : List Turn → ℕ → Type 0
-SendsFairMessages chain limit = (frame : List ℕ) (given : List Outside) (d : ListedSend) → IsAwaitedSend (chained chain limit) frame given d → IsMessageSend chain frame d
+abbrev pub SendsWholeMessages : List Turn → ℕ → Type 0
+SendsWholeMessages chain limit = (frame : List ℕ) (given : List Outside) (d : ListedSend) → IsAwaitedSend (chained chain limit) frame given d → IsMessageSend chain frame d
 
 -- no request waits for a filter without an end
 abbrev pub AllComeToAnEnd : List Turn → ℕ → Type 0
 AllComeToAnEnd chain limit =
-    (r : Request) (filter : ℕ) → IsFairRequest (chained chain limit) r → is_told_versions r.frame ≡ false → chain_outcome chain r.frame r.given ≢ NeverEnds filter
+    (r : Request) (filter : ℕ) → IsGivenAsAwaited (chained chain limit) r → is_told_versions r.frame ≡ false → chain_outcome chain r.frame r.given ≢ NeverEnds filter
 
 -- a request goes to the broker itself once at most: it has one main send
 abbrev pub HaveOneMainSend : State → Type 0
@@ -82,3 +82,7 @@ pub record AreOwnResponses (hs : List Entry) : Type 0 where
   pub responses : List (List ℕ)
   pub own : AllZip IsOwnResponse frames responses
   pub sent_is : out hs ≡ concat responses
+
+-- what the request means, with all that it was given, is its own response
+abbrev pub HasOwnResponse : Meaning → Request → Type 0
+HasOwnResponse M r = IsOwnResponse r.frame (response_bytes (M.status r.frame r.given))

@@ -5,4 +5,7 @@ pub returns-clause-requests : goal.returns-clause-requests
 returns-clause-requests c = all_fair
 
 pub returns-clause-sends : goal.returns-clause-sends
-returns-clause-sends c = λ M hs s run bytes. (all_own M hs s run bytes, all_apart M hs s run bytes)
+returns-clause-sends c = all_own
+
+pub returns-clause-asked_once : goal.returns-clause-asked_once
+returns-clause-asked_once c = all_apart
