@@ -1,5 +1,5 @@
 -- The worked chain, computed.
-use Rattle.std.proofs.Common.{◌≡◌, refl, Bool, true, false, ℕ, [], ◌∷◌, pos, Some, None, rules}
+use Rattle.std.proofs.Common.{◌≡◌, refl, Bool, true, false, ℕ, [], ◌∷◌, pos, replicate, Some, None, rules}
 use Rattle.std.specs.List.{All}
 use Rattle.std.proofs.lemmas.List.Elements.{All-nil, All-cons}
 use Rattle.kp_schema.specs.Messages.{fields_of, messages}
@@ -10,10 +10,10 @@ use Rattle.filter_core.specs.Inputs.{IsResponseTo}
 use Rattle.filter_core.specs.Laws.{IsLawful}
 use Rattle.side_requests.specs.declared.ask.Ask.TheVariants as ask
 use Rattle.filter_chain.specs.Chain.{turns_on}
-use Rattle.filter_chain.specs.Outcomes.{Needs, Completed, run, turns}
+use Rattle.filter_chain.specs.Outcomes.{Needs, Completed, NeverEnds, run, turns}
 use Rattle.filter_probes.specs.Probes.{probe_heartbeat, metadata, heartbeat_error, probe_turn, probe_forwards_once, probe_ends, probe_forwards_same, probe_answered, probe_returns}
 use Rattle.proxy_laws.specs.Coming.{MayHaveCome}
-use Rattle.proxy_laws.specs.WorkedChain.{worked_filters, empty_cluster, metadata_came, heartbeat_came}
+use Rattle.proxy_laws.specs.WorkedChain.{worked_filters, restless, empty_cluster, metadata_came, heartbeat_came}
 
 probe_is_lawful : (asks : Bool) (what times : ℕ) → IsLawful (probe_turn asks what times)
 probe_is_lawful asks what times =
@@ -68,3 +68,11 @@ other_key h = let z : pos 12 ≡ pos 3 = h.of.key_is in cc
 pub in_no_other_order : MayHaveCome worked_filters probe_heartbeat (heartbeat_came ∷ metadata_came ∷ []) → ⊥
 unfolding turns_on
 in_no_other_order h = other_key h.0
+
+pub foreign : run worked_filters probe_heartbeat (heartbeat_came ∷ metadata_came ∷ []) ≡ Completed (Some empty_cluster)
+unfolding turns_on
+foreign = refl
+
+pub without_an_end : run (restless ∷ []) probe_heartbeat (replicate 7 metadata_came) ≡ NeverEnds 0
+unfolding turns_on
+without_an_end = refl

@@ -1,4 +1,4 @@
-ghost use Rattle.std.specs.Prelude.{List, ℕ, All, take};
+ghost use Rattle.std.specs.Prelude.{List, ℕ, All, map, take};
 ghost use Rattle.filter_core.specs.Decision.{Turn};
 ghost use Rattle.filter_core.specs.Laws.{IsLawful};
 ghost use Rattle.conn_rules.specs.Meaning.{Meaning};
@@ -7,6 +7,9 @@ ghost use Rattle.conn_rules.specs.History.{Entry, IsHistory};
 ghost use Rattle.conn_core.specs.Chained.{chained};
 ghost use Rattle.proxy_laws.specs.Awaited.{IsGivenAsAwaited, IsOwnSend, AreAskedOnce, AllBringBytes};
 ghost use Rattle.proxy_laws.specs.OwnResponses.{DoneWithOwnResponse, SendsWholeMessages, AllComeToAnEnd, AreOwnResponses, HasOwnResponse, AreMessageSends};
+
+use crate::chains::filters_are_lawful;
+use filter_core::Filter;
 
 /// Whatever comes, in whatever order, each request of a connection is given what it waits for, and nothing else. Each send is
 /// one that its request waited for, and none is sent twice. It is so under every meaning of requests.
@@ -37,3 +40,12 @@ pub fn history_laws()
     // once at most.
     ensures message_sends { (chain : List Turn) (limit : ℕ) (hs : List Entry) (s : State) → All IsLawful chain → IsHistory (chained chain limit) hs s → AllBringBytes hs → AreMessageSends chain hs s }
 {}
+
+/// The same for filters as code, in order from the client to the broker.
+pub fn filters_history_laws<F: Filter>(filters: &[F])
+    ensures own_responses { (limit : ℕ) (hs : List Entry) (s : State) → IsHistory (chained (map F.turn filters.now) limit) hs s → AllBringBytes hs → AreOwnResponses hs }
+    ensures message_sends { (limit : ℕ) (hs : List Entry) (s : State) → IsHistory (chained (map F.turn filters.now) limit) hs s → AllBringBytes hs → AreMessageSends (map F.turn filters.now) hs s }
+{
+    filters_are_lawful(filters);
+    history_laws();
+}

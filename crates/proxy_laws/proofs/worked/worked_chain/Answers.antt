@@ -1,4 +1,4 @@
-use Rattle.proxy_laws.proofs.WorkedAnswers.{lawful, asks_aside, sends_itself, completes, seven_turns, may_come, in_no_other_order}
+use Rattle.proxy_laws.proofs.WorkedAnswers.{lawful, asks_aside, sends_itself, completes, seven_turns, may_come, in_no_other_order, foreign, without_an_end}
 use Rattle.proxy_laws.proofs.worked.worked_chain.Goals as goal
 
 pub returns-clause-lawful : goal.returns-clause-lawful
@@ -21,3 +21,9 @@ returns-clause-may_come c = may_come
 
 pub returns-clause-in_no_other_order : goal.returns-clause-in_no_other_order
 returns-clause-in_no_other_order c = in_no_other_order
+
+pub returns-clause-foreign : goal.returns-clause-foreign
+returns-clause-foreign c = foreign
+
+pub returns-clause-without_an_end : goal.returns-clause-without_an_end
+returns-clause-without_an_end c = without_an_end
