@@ -25,16 +25,16 @@ use Rattle.filter_core.specs.Laws.{AnswersRequest, IsLawful}
 use Rattle.side_requests.specs.declared.ask.Ask.TheVariants as ask
 use Rattle.filter_chain.specs.declared.outside.Outside as chains
 use Rattle.filter_chain.specs.Outcomes.{Outcome, Needs, Completed, Shuts, NeverEnds, run}
-use Rattle.conn_rules.specs.Meaning.{Meaning, Done}
-use Rattle.conn_rules.specs.State.{Outside, Body, NoResponse, Verdict}
-use Rattle.conn_core.specs.Requests.{request_of, request_body, request_decoded, client_id_length, is_silent, is_told_versions, versions_told, body_cause, frame_cause, answer_cause, response_decoded, response_read, items_read}
+use Rattle.conn_rules.specs.Meaning.{Meaning, Ask, ToBroker, Hold, Waits, Done}
+use Rattle.conn_rules.specs.State.{Outside, Body, NoResponse, Verdict, ListedSend}
+use Rattle.conn_core.specs.Requests.{client_id_spelled, request_of, request_body, request_decoded, client_id_length, is_silent, is_told_versions, versions_told, body_cause, frame_cause, answer_cause, response_decoded, response_read, items_read}
 use Rattle.conn_core.specs.Chained.{taken_as, given_behind, given_to, most_out, grown_past, message_size, sent_for, responded, response_body, outcome_status, chain_outcome, chained}
 use Rattle.conn_core.proofs.Lasting.{given_later, done_is_completed}
-use Rattle.proxy_laws.specs.Coming.{MayMeet, ComeBehind, MayHaveCome}
+use Rattle.proxy_laws.specs.Coming.{MayBeGiven, MayHaveComeBehind, MayHaveCome}
 use Rattle.proxy_laws.specs.LawfulChains.{IsNeedOf}
-use Rattle.proxy_laws.specs.Awaited.{IsAwaited, AwaitedBehind, AreAwaited}
-use Rattle.proxy_laws.specs.OwnResponses.{IsResponseFrame, RespondsWithItsOwn, IsFairMessage, SendsFairMessages}
-use Rattle.proxy_laws.proofs.Requests.{own_response, whole_messages}
+use Rattle.proxy_laws.specs.Awaited.{IsAwaited, AwaitedBehind, AreAwaited, IsGivenAsAwaited, IsAwaitedSend}
+use Rattle.proxy_laws.specs.OwnResponses.{IsResponseFrame, DoneWithOwnResponse, IsMessageFor, IsMessageSend, SendsWholeMessages, AllComeToAnEnd}
+use Rattle.proxy_laws.proofs.Requests.{own_response, whole_messages, one_main_send, comes_to_an_end}
 use Rattle.proxy_laws.proofs.Supported.{supported_fits, key_again, version_again}
 
 -- ---- bodies that are read are trees
@@ -105,12 +105,16 @@ readable_response message bytes supported small e =
     let before = int16 message.key ++ int16 message.version in
     read_response message bytes small (cause_again (request_key before) (request_version before) message.key message.version bytes (key_again message.key message.version fits.0) (version_again message.key message.version fits.1) e)
 
+status_of : (chain : List Turn) (frame : List ℕ) (told : Bool) (o : Outcome) → told ≡ false → (if told then Done (versions_told frame) else outcome_status frame o) ≡ outcome_status frame o
+status_of chain frame true o e = absurd cc
+status_of chain frame false o e = refl
+
 -- ---- what was given is what may have come
 
-come_one_more : (chain : List Turn) (request : Contents) (start came : List chains.Outside) (x : chains.Outside) → ComeBehind chain request start came → MayMeet (run chain request (start ++ came)) x → ComeBehind chain request start (came ++ x ∷ [])
-come_one_more chain request start [] x h may = (subst (λ l. MayMeet (run chain request l) x) (append-nil start) may, tt)
+come_one_more : (chain : List Turn) (request : Contents) (start came : List chains.Outside) (x : chains.Outside) → MayHaveComeBehind chain request start came → MayBeGiven (run chain request (start ++ came)) x → MayHaveComeBehind chain request start (came ++ x ∷ [])
+come_one_more chain request start [] x h may = (subst (λ l. MayBeGiven (run chain request l) x) (append-nil start) may, tt)
 come_one_more chain request start (y ∷ came) x h may =
-    (h.0, come_one_more chain request (start ++ y ∷ []) came x h.1 (subst (λ l. MayMeet (run chain request l) x) (sym (append_assoc start (y ∷ []) came)) may))
+    (h.0, come_one_more chain request (start ++ y ∷ []) came x h.1 (subst (λ l. MayBeGiven (run chain request l) x) (sym (append_assoc start (y ∷ []) came)) may))
 
 supported_need : (chain : List Turn) (request message : Contents) (main : Bool) → IsTrue (is_supported request.key request.version) → IsNeedOf chain request (ask.Broker message main) → IsTrue (is_supported message.key message.version)
 supported_need chain request message true supported need = subst (λ k. IsTrue (is_supported k message.version)) (sym need.same_key) (subst (λ v. IsTrue (is_supported request.key v)) (sym need.same_version) supported)
@@ -137,17 +141,17 @@ module _ (chain : List Turn) (limit : ℕ) (frame : List ℕ) where
   nothing_awaited false true size response x h = h
   nothing_awaited false false size response x h = h
 
-  meets_message : (message : Contents) (main : Bool) (x : Outside) → IsTrue (is_supported message.key message.version) → IsAwaited M (sent_for frame message main) x → MayMeet (Needs (ask.Broker message main)) (taken_as (Needs (ask.Broker message main)) x)
+  meets_message : (message : Contents) (main : Bool) (x : Outside) → IsTrue (is_supported message.key message.version) → IsAwaited M (sent_for frame message main) x → MayBeGiven (Needs (ask.Broker message main)) (taken_as (Needs (ask.Broker message main)) x)
   meets_message message main (Body bytes) supported h = readable_response message bytes supported h.1 h.2
   meets_message message main NoResponse supported h = not_false (has_acks_zero message) h
   meets_message message main (Verdict bytes) supported h = absurd h
 
-  meets_hold : (filter : ℕ) (key : List ℕ) (x : Outside) → IsAwaited M (outcome_status frame (Needs (ask.Hold filter key))) x → MayMeet (Needs (ask.Hold filter key)) (taken_as (Needs (ask.Hold filter key)) x)
+  meets_hold : (filter : ℕ) (key : List ℕ) (x : Outside) → IsAwaited M (outcome_status frame (Needs (ask.Hold filter key))) x → MayBeGiven (Needs (ask.Hold filter key)) (taken_as (Needs (ask.Hold filter key)) x)
   meets_hold filter key (Body bytes) h = absurd h
   meets_hold filter key NoResponse h = absurd h
   meets_hold filter key (Verdict bytes) h = tt
 
-  meets : (o : Outcome) (x : Outside) → ((message : Contents) (main : Bool) → o ≡ Needs (ask.Broker message main) → IsTrue (is_supported message.key message.version)) → IsAwaited M (outcome_status frame o) x → MayMeet o (taken_as o x)
+  meets : (o : Outcome) (x : Outside) → ((message : Contents) (main : Bool) → o ≡ Needs (ask.Broker message main) → IsTrue (is_supported message.key message.version)) → IsAwaited M (outcome_status frame o) x → MayBeGiven o (taken_as o x)
   meets (Needs (ask.Broker message main)) x supported h =
       meets_message message main x (supported message main refl) (awaited_sent message main (nat_le (message_size frame message) most_out) (message_size frame message) x h)
   meets (Needs (ask.Hold filter key)) x supported h = meets_hold filter key x h
@@ -166,17 +170,13 @@ module _ (chain : List Turn) (limit : ℕ) (frame : List ℕ) where
     needs_supported : (came : List chains.Outside) → MayHaveCome chain request came → (message : Contents) (main : Bool) → run chain request came ≡ Needs (ask.Broker message main) → IsTrue (is_supported message.key message.version)
     needs_supported came may message main e = supported_need chain request message main (supported_request frame small is_request not_told) (whole_messages chain lawful request came (ask.Broker message main) whole may e)
 
-    status_of : (told : Bool) (o : Outcome) → told ≡ false → (if told then Done (versions_told frame) else outcome_status frame o) ≡ outcome_status frame o
-    status_of true o e = absurd cc
-    status_of false o e = refl
-
     come_from : (before : List Outside) (came : List chains.Outside) → given_to chain request before ≡ came → (xs : List Outside) → MayHaveCome chain request came → AwaitedBehind M frame before xs → MayHaveCome chain request (given_behind chain request came xs)
     come_from before came same [] may h = may
     come_from before came same (x ∷ xs) may h =
         let o = run chain request came in
         let y = taken_as o x in
         let awaited : IsAwaited M (outcome_status frame o) x =
-        subst (λ l. IsAwaited M (outcome_status frame (run chain request l)) x) same (subst (λ s. IsAwaited M s x) (status_of (is_told_versions frame) (run chain request (given_to chain request before)) not_told) h.0) in
+        subst (λ l. IsAwaited M (outcome_status frame (run chain request l)) x) same (subst (λ s. IsAwaited M s x) (status_of chain frame (is_told_versions frame) (run chain request (given_to chain request before)) not_told) h.0) in
         come_from (before ++ x ∷ []) (came ++ y ∷ []) (given_later chain request before (x ∷ []) [] ∙ ap (λ l. given_behind chain request l (x ∷ [])) same) xs
         (come_one_more chain request [] came y may (meets o x (needs_supported came may) awaited)) h.1
 
@@ -201,8 +201,8 @@ module _ (chain : List Turn) (limit : ℕ) (frame : List ℕ) where
         let d = done_is_completed frame (chain_outcome chain frame given) response e in
         own_or_silent (is_silent frame) d.0 response refl (own_response chain lawful request (given_to chain request given) d.0 whole (given_come given awaited) d.1) (sym (ap (outcome_status frame) d.1) ∙ e)
 
-    pub fair_message : (given : List Outside) (message : Contents) (main : Bool) → AreAwaited M frame given → chain_outcome chain frame given ≡ Needs (ask.Broker message main) → IsFairMessage chain frame message main
-    fair_message given message main awaited e =
+    pub message_for : (given : List Outside) (message : Contents) (main : Bool) → AreAwaited M frame given → chain_outcome chain frame given ≡ Needs (ask.Broker message main) → IsMessageFor chain frame message main
+    message_for given message main awaited e =
         let may = given_come given awaited in
         let need = whole_messages chain lawful request (given_to chain request given) (ask.Broker message main) whole may e in
         record { whole = whole_need chain request main message need; supported = needs_supported (given_to chain request given) may message main e; need = need }
@@ -213,8 +213,111 @@ module _ (chain : List Turn) (limit : ℕ) (frame : List ℕ) where
   own_either lawful small is_request given awaited response true is e = cc
   own_either lawful small is_request given awaited response false is e = own_completed lawful small is_request is given response awaited e
 
-pub responds_with_its_own : (chain : List Turn) (limit : ℕ) → All IsLawful chain → RespondsWithItsOwn chain limit
-responds_with_its_own chain limit lawful r response fair e = own_either chain limit r.frame lawful fair.bytes fair.is_request r.given fair.awaited response (is_told_versions r.frame) refl e
+pub done_with_own_response : (chain : List Turn) (limit : ℕ) → All IsLawful chain → DoneWithOwnResponse chain limit
+done_with_own_response chain limit lawful r response fair e = own_either chain limit r.frame lawful fair.bytes fair.is_request r.given fair.awaited response (is_told_versions r.frame) refl e
 
-pub sends_fair_messages : (chain : List Turn) (limit : ℕ) → All IsLawful chain → SendsFairMessages chain limit
-sends_fair_messages chain limit lawful r message main fair not_told e = fair_message chain limit r.frame lawful fair.bytes fair.is_request not_told r.given message main fair.awaited e
+-- ---- what goes to the broker
+
+waits_is_needed : (frame : List ℕ) (message : Contents) (main b : Bool) (size : ℕ) (question : Ask) → (if b then sent_for frame message main else grown_past size) ≡ Waits question → sent_for frame message main ≡ Waits question
+waits_is_needed frame message main true size question e = e
+waits_is_needed frame message main false size question e = absurd (let z : grown_past size ≡ Waits question = e in cc)
+
+done_waits : (silent b : Bool) (size : ℕ) (response : List ℕ) (question : Ask) → (if silent then Done [] else if b then Done response else grown_past size) ≡ Waits question → ⊥
+done_waits true b size response question e = let z : Done [] ≡ Waits question = e in cc
+done_waits false true size response question e = let z : Done response ≡ Waits question = e in cc
+done_waits false false size response question e = let z : grown_past size ≡ Waits question = e in cc
+
+-- the parts of the send of a message
+record IsSentAs (frame : List ℕ) (message : Contents) (before behind : List ℕ) (main responds asked : Bool) : Type 0 where
+  before_is : before ≡ int16 message.key ++ int16 message.version
+  behind_is : behind ≡ client_id_spelled frame ++ spelling message.items
+  main_is : main ≡ asked
+  responds_is : responds ≡ not (has_acks_zero message)
+
+parts_of : (frame : List ℕ) (message : Contents) (asked : Bool) (before behind : List ℕ) (main responds : Bool) → sent_for frame message asked ≡ Waits (ToBroker before behind main responds) → IsSentAs frame message before behind main responds asked
+parts_of frame message asked before behind main responds e =
+    let z : Waits (ToBroker (int16 message.key ++ int16 message.version) (client_id_spelled frame ++ spelling message.items) asked (not (has_acks_zero message))) ≡ Waits (ToBroker before behind main responds) = e in
+    record { before_is = cc; behind_is = cc; main_is = cc; responds_is = cc }
+
+record IsNeeding (frame : List ℕ) (o : Outcome) (before behind : List ℕ) (main responds : Bool) : Type 0 where
+  message : Contents
+  asked : Bool
+  needs : o ≡ Needs (ask.Broker message asked)
+  parts : IsSentAs frame message before behind main responds asked
+
+needing : (frame : List ℕ) (o : Outcome) (before behind : List ℕ) (main responds : Bool) → outcome_status frame o ≡ Waits (ToBroker before behind main responds) → IsNeeding frame o before behind main responds
+needing frame (Needs (ask.Broker message asked)) before behind main responds e =
+    record {
+      message = message;
+      asked = asked;
+      needs = refl;
+      parts = parts_of frame message asked before behind main responds (waits_is_needed frame message asked (nat_le (message_size frame message) most_out) (message_size frame message) (ToBroker before behind main responds) e);
+    }
+needing frame (Needs (ask.Hold filter key)) before behind main responds e = absurd (let z : Waits (Hold key) ≡ Waits (ToBroker before behind main responds) = e in cc)
+needing frame (Completed response) before behind main responds e =
+    absurd (done_waits (is_silent frame) (nat_le (4 + length (response_body response)) most_out) (4 + length (response_body response)) (sized (request_id frame ++ response_body response)) (ToBroker before behind main responds) e)
+needing frame (Shuts cause) before behind main responds e = absurd cc
+needing frame (NeverEnds filter) before behind main responds e = absurd cc
+
+module _ (chain : List Turn) (limit : ℕ) (lawful : All IsLawful chain) where
+  message_send : (frame : List ℕ) (d : ListedSend) (given : List Outside) → IsGivenAsAwaited (chained chain limit) (record { frame = frame; given = given }) → is_told_versions frame ≡ false
+      → outcome_status frame (chain_outcome chain frame given) ≡ Waits (ToBroker d.before d.behind d.main d.responds) → IsMessageSend chain frame d
+  message_send frame d given fair not_told e =
+      let n = needing frame (chain_outcome chain frame given) d.before d.behind d.main d.responds e in
+      record {
+        message = n.message;
+        is_for = subst (IsMessageFor chain frame n.message) (sym n.parts.main_is) (message_for chain limit frame lawful fair.bytes fair.is_request not_told given n.message n.asked fair.awaited n.needs);
+        before_is = n.parts.before_is;
+        behind_is = n.parts.behind_is;
+        responds_is = n.parts.responds_is;
+      }
+
+  message_if : (frame : List ℕ) (d : ListedSend) (given : List Outside) → IsGivenAsAwaited (chained chain limit) (record { frame = frame; given = given }) → (told : Bool) → is_told_versions frame ≡ told
+      → (if told then Done (versions_told frame) else outcome_status frame (chain_outcome chain frame given)) ≡ Waits (ToBroker d.before d.behind d.main d.responds) → IsMessageSend chain frame d
+  message_if frame d given fair true is e = absurd (let z : Done (versions_told frame) ≡ Waits (ToBroker d.before d.behind d.main d.responds) = e in cc)
+  message_if frame d given fair false is e = message_send frame d given fair is e
+
+  pub sends_whole_messages : SendsWholeMessages chain limit
+  sends_whole_messages frame given d send = message_if frame d given send.request (is_told_versions frame) refl send.waits
+
+  -- ---- a request has one main send
+
+  main_needed : (frame : List ℕ) (given : List Outside) (d : ListedSend) → IsAwaitedSend (chained chain limit) frame given d → is_told_versions frame ≡ false → d.main ≡ true
+      → (message : Contents) × (chain_outcome chain frame given ≡ Needs (ask.Broker message true))
+  main_needed frame given d send not_told main =
+      let status : outcome_status frame (chain_outcome chain frame given) ≡ Waits (ToBroker d.before d.behind d.main d.responds) = sym (status_of chain frame (is_told_versions frame) (chain_outcome chain frame given) not_told) ∙ send.waits in
+      let n = needing frame (chain_outcome chain frame given) d.before d.behind d.main d.responds status in
+      (n.message, n.needs ∙ ap (λ b. Needs (ask.Broker n.message b)) (sym n.parts.main_is ∙ main))
+
+  waits_is_request : (frame : List ℕ) (given : List Outside) (d : ListedSend) (told : Bool) → is_told_versions frame ≡ told
+      → (if told then Done (versions_told frame) else outcome_status frame (chain_outcome chain frame given)) ≡ Waits (ToBroker d.before d.behind d.main d.responds) → is_told_versions frame ≡ false
+  waits_is_request frame given d true is e = absurd (let z : Done (versions_told frame) ≡ Waits (ToBroker d.before d.behind d.main d.responds) = e in cc)
+  waits_is_request frame given d false is e = is
+
+  -- what more was given stands behind
+  in_front : (message : Contents) (given : List Outside) (before : List chains.Outside) → (more : List chains.Outside) × (given_behind chain message before given ≡ before ++ more)
+  in_front message [] before = ([], sym (append-nil before))
+  in_front message (x ∷ given) before =
+      let y = taken_as (run chain message before) x in
+      let r = in_front message given (before ++ y ∷ []) in
+      (y ∷ r.0, r.1 ∙ append_assoc before (y ∷ []) r.0)
+
+  pub no_second_main : (frame : List ℕ) (given : List Outside) (x : Outside) (more : List Outside) (d f : ListedSend) → IsAwaitedSend (chained chain limit) frame given d → IsAwaitedSend (chained chain limit) frame (given ++ x ∷ more) f
+      → d.main ≡ true → f.main ≡ true → ⊥
+  no_second_main frame given x more d f first second main again =
+      let not_told = waits_is_request frame given d (is_told_versions frame) refl first.waits in
+      let request = request_of frame in
+      let came = given_to chain request given in
+      let y = taken_as (run chain request came) x in
+      let rest = in_front request more (came ++ y ∷ []) in
+      let list : given_to chain request (given ++ x ∷ more) ≡ came ++ y ∷ rest.0 = given_later chain request given (x ∷ more) [] ∙ rest.1 ∙ append_assoc came (y ∷ []) rest.0 in
+      let small = first.request.bytes in
+      let is_request = first.request.is_request in
+      let may = given_come chain limit frame lawful small is_request not_told (given ++ x ∷ more) second.request.awaited in
+      let a = main_needed frame given d first not_told main in
+      let b = main_needed frame (given ++ x ∷ more) f second not_told again in
+      one_main_send chain lawful request came y rest.0 a.0 b.0 (whole_request frame small is_request not_told) (subst (MayHaveCome chain request) list may) a.1 (ap (run chain request) (sym list) ∙ b.1)
+
+  pub all_come_to_an_end : AllComeToAnEnd chain limit
+  all_come_to_an_end r filter fair not_told e =
+      comes_to_an_end chain lawful (request_of r.frame) (given_to chain (request_of r.frame) r.given) filter (whole_request r.frame fair.bytes fair.is_request not_told) (given_come chain limit r.frame lawful fair.bytes fair.is_request not_told r.given fair.awaited) e

@@ -10,7 +10,7 @@ use Rattle.filter_chain.specs.declared.state.ShutCause.TheVariants as cause
 use Rattle.filter_chain.specs.Chain.{Fate, Back, Awaits, Course, gives}
 use Rattle.filter_chain.specs.Outcomes.{Needs, Shuts, outcome_after, course, run}
 use Rattle.filter_chain.specs.Laws.{IsSettled, UsesFront}
-use Rattle.proxy_laws.specs.Coming.{MayAnswer, MayMeet, ComeBehind, MayHaveCome}
+use Rattle.proxy_laws.specs.Coming.{MayAnswer, MayBeGiven, MayHaveComeBehind, MayHaveCome}
 
 abbrev pub Fit : (List Outside → Course) → List Outside → Type 0
 Fit way xs =
@@ -46,22 +46,22 @@ module _ (way : List Outside → Course) (g : Input → List Outside → Course)
 
 -- ---- a whole request
 
-behind_split : (chain : List Turn) (request : Contents) (start xs before : List Outside) (x : Outside) (after : List Outside) → ComeBehind chain request start xs → xs ≡ before ++ x ∷ after → MayMeet (run chain request (start ++ before)) x
+behind_split : (chain : List Turn) (request : Contents) (start xs before : List Outside) (x : Outside) (after : List Outside) → MayHaveComeBehind chain request start xs → xs ≡ before ++ x ∷ after → MayBeGiven (run chain request (start ++ before)) x
 behind_split chain request start [] [] x after come e = absurd cc
 behind_split chain request start [] (y ∷ before) x after come e = absurd cc
-behind_split chain request start (z ∷ xs) [] x after come e = let same : z ≡ x = cc in subst (λ l. MayMeet (run chain request l) x) (sym (append-nil start)) (subst (MayMeet (run chain request start)) same come.0)
+behind_split chain request start (z ∷ xs) [] x after come e = let same : z ≡ x = cc in subst (λ l. MayBeGiven (run chain request l) x) (sym (append-nil start)) (subst (MayBeGiven (run chain request start)) same come.0)
 behind_split chain request start (z ∷ xs) (y ∷ before) x after come e =
     let same : z ≡ y = cc in
     let rest : xs ≡ before ++ x ∷ after = cc in
-    subst (λ l. MayMeet (run chain request l) x) (append_assoc start (y ∷ []) before) (behind_split chain request (start ++ y ∷ []) xs before x after (subst (λ w. ComeBehind chain request (start ++ w ∷ []) xs) same come.1) rest)
+    subst (λ l. MayBeGiven (run chain request l) x) (append_assoc start (y ∷ []) before) (behind_split chain request (start ++ y ∷ []) xs before x after (subst (λ w. MayHaveComeBehind chain request (start ++ w ∷ []) xs) same come.1) rest)
 
 -- what may meet a request that awaits something answers it
-meets_ask : (b : Bool) (question : Ask) (x : Outside) → MayMeet (if b then Needs question else Shuts cause.AskBudget) x → MayAnswer question x
+meets_ask : (b : Bool) (question : Ask) (x : Outside) → MayBeGiven (if b then Needs question else Shuts cause.AskBudget) x → MayAnswer question x
 meets_ask true question x h = h
 meets_ask false question x h = absurd h
 
-meets_fate : (n : ℕ) (fate : Fate) (question : Ask) (x : Outside) → fate ≡ Awaits question → MayMeet (outcome_after n fate) x → MayAnswer question x
-meets_fate n fate question x e h = meets_ask (nat_lt n ask_limit) question x (subst (λ f. MayMeet (outcome_after n f) x) e h)
+meets_fate : (n : ℕ) (fate : Fate) (question : Ask) (x : Outside) → fate ≡ Awaits question → MayBeGiven (outcome_after n fate) x → MayAnswer question x
+meets_fate n fate question x e h = meets_ask (nat_lt n ask_limit) question x (subst (λ f. MayBeGiven (outcome_after n f) x) e h)
 
 pub come_fit : (chain : List Turn) (request : Contents) (given : List Outside) → MayHaveCome chain request given → Fit (course chain request) given
 come_fit chain request given come before x after question e awaits =

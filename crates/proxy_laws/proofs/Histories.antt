@@ -23,8 +23,8 @@ use Rattle.conn_rules.specs.Causes.{below, cut_cause, with_cut, client_ended, br
 use Rattle.conn_rules.specs.Settling.{Act, CutAt, Lists, is_listed, lets_later_go, act_of, or_else, act_from, next_act, listed, acted, after_acts}
 use Rattle.conn_rules.specs.Steps.{joined, read_body, matched, attributed, answer_step, hold_of, hold_in, open_hold, is_hold, complete_step, client_end, faulted, noted, sent_next, first_hold, picked_next, response_in, silent_passed, over_or, respond_or, told_again, emit_step, answer_to, StepOrNoMemory}
 use Rattle.conn_rules.specs.History.{Entry, LeadsTo, IsHistory}
-use Rattle.proxy_laws.specs.Awaited.{IsAwaited, AwaitedBehind, IsFairRequest, BringsBytes, AllBringBytes}
-use Rattle.proxy_laws.proofs.Lists.{if_responding, still_there, there_or_new, set_there, set_elsewhere, same_element, inside, same_or_not, respond_taken, respond_more, respond_listed}
+use Rattle.proxy_laws.specs.Awaited.{IsAwaited, AwaitedBehind, IsGivenAsAwaited, IsAwaitedSend, IsOwnSend, AreAskedOnce, BringsBytes, AllBringBytes}
+use Rattle.proxy_laws.proofs.Lists.{if_responding, still_there, there_or_new, set_there, set_elsewhere, same_element, inside, same_or_not, respond_taken, respond_more, respond_listed, present_listed}
 
 module _ (M : Meaning) where
   -- a send whose answer has to come: its request waits for that, where it is below the cut
@@ -39,10 +39,12 @@ module _ (M : Meaning) where
 
   -- at every moment
   record IsSound (s : State) : Type 0 where
-    fair : (k : ℕ) (r : Request) → slice_get s.requests k ≡ Some r → IsFairRequest M r
+    fair : (k : ℕ) (r : Request) → slice_get s.requests k ≡ Some r → IsGivenAsAwaited M r
     counted : s.answered ≤ length (due s)
     pending : (n : ℕ) (e : ℕ × ListedSend) → s.answered ≤ n → slice_get (due s) n ≡ Some e → below s.causes.cut e.1.request ≡ true → IsPending s e.1
     alone : (n m : ℕ) (e f : ℕ × ListedSend) → s.answered ≤ n → n < m → slice_get (due s) n ≡ Some e → slice_get (due s) m ≡ Some f → e.1.request ≡ f.1.request → ⊥
+    own : (n : ℕ) (d : ListedSend) → slice_get s.sends n ≡ Some d → IsOwnSend M s d
+    apart : AreAskedOnce s
 
   -- ---- what doesn't matter
 
@@ -51,6 +53,15 @@ module _ (M : Meaning) where
 
   same_pending : (s t : State) (d : ListedSend) → t.requests ≡ s.requests → IsPending s d → IsPending t d
   same_pending s t d e p = record { request = p.request; there = ap (λ rs. slice_get rs d.request) e ∙ p.there; ask = p.ask; waits = p.waits }
+
+  own_there : (s t : State) (d : ListedSend) (p : IsOwnSend M s d) → slice_get t.requests d.request ≡ Some p.request → IsOwnSend M t d
+  own_there s t d p there = record { request = p.request; there = there; given = p.given; since = p.since; front = p.front; send = p.send }
+
+  same_own : (s t : State) (d : ListedSend) → t.requests ≡ s.requests → IsOwnSend M s d → IsOwnSend M t d
+  same_own s t d e p = own_there s t d p (ap (λ rs. slice_get rs d.request) e ∙ p.there)
+
+  apart_same : (s t : State) → t.sends ≡ s.sends → AreAskedOnce s → AreAskedOnce t
+  apart_same s t e h n m d f lt a b same ask = h n m d f lt (ap (λ ds. slice_get ds n) (sym e) ∙ a) (ap (λ ds. slice_get ds m) (sym e) ∙ b) same ask
 
   sound_same : (s t : State) → t.requests ≡ s.requests → t.sends ≡ s.sends → t.answered ≡ s.answered → IsLower s t → IsSound s → IsSound t
   sound_same s t er es ea lower h =
@@ -61,6 +72,8 @@ module _ (M : Meaning) where
             same_pending s t e.1 er (h.pending n e (subst (λ a. a ≤ n) ea le) (ap (λ ds. slice_get (responding 0 ds) n) (sym es) ∙ there) (lower e.1.request low));
         alone = λ n m e f le lt there also.
             h.alone n m e f (subst (λ a. a ≤ n) ea le) lt (ap (λ ds. slice_get (responding 0 ds) n) (sym es) ∙ there) (ap (λ ds. slice_get (responding 0 ds) m) (sym es) ∙ also);
+        own = λ n d there. same_own s t d er (h.own n d (ap (λ ds. slice_get ds n) (sym es) ∙ there));
+        apart = apart_same s t es h.apart;
       }
 
   -- a cut only goes down
@@ -89,8 +102,19 @@ module _ (M : Meaning) where
   awaited_more frame before (y ∷ given) x h may =
       (h.0, awaited_more frame (before ++ y ∷ []) given x h.1 (subst (λ l. IsAwaited M (M.status frame l) x) (sym (append_assoc before (y ∷ []) given)) may))
 
-  fair_more : (r : Request) (x : Outside) → IsFairRequest M r → IsAwaited M (M.status r.frame r.given) x → IsFairRequest M (record r { given = r.given ++ x ∷ [] })
+  fair_more : (r : Request) (x : Outside) → IsGivenAsAwaited M r → IsAwaited M (M.status r.frame r.given) x → IsGivenAsAwaited M (record r { given = r.given ++ x ∷ [] })
   fair_more r x h may = record { bytes = h.bytes; is_request = h.is_request; awaited = awaited_more r.frame [] r.given x h.awaited may }
+
+  own_later : (s t : State) (d : ListedSend) (p : IsOwnSend M s d) (r : Request) (x : Outside) → p.request ≡ r → slice_get t.requests d.request ≡ Some (record r { given = r.given ++ x ∷ [] }) → IsOwnSend M t d
+  own_later s t d p r x e there =
+      record {
+        request = record r { given = r.given ++ x ∷ [] };
+        there = there;
+        given = p.given;
+        since = p.since ++ x ∷ [];
+        front = ap (λ l. l ++ x ∷ []) (ap (λ (u : Request). u.given) (sym e) ∙ p.front) ∙ append_assoc p.given p.since (x ∷ []);
+        send = subst (λ (u : Request). IsAwaitedSend M u.frame p.given d) e p.send;
+      }
 
   sound_given : (s : State) (k : ℕ) (r : Request) (x : Outside) → IsSound s → slice_get s.requests k ≡ Some r → IsAwaited M (M.status r.frame r.given) x
       → ((n : ℕ) (e : ℕ × ListedSend) → s.answered ≤ n → slice_get (due s) n ≡ Some e → e.1.request ≡ k → ⊥)
@@ -99,7 +123,7 @@ module _ (M : Meaning) where
       let new : Request = record r { given = r.given ++ x ∷ [] } in
       record {
         fair = λ j t is. elim (same_or_not j k) [
-          | inl same ↦ subst (IsFairRequest M) (same_element (slice_get (slice_set s.requests k new) k) new t (set_there s.requests k new r there) (subst (λ i. slice_get (slice_set s.requests k new) i ≡ Some t) same is)) (fair_more r x (h.fair k r there) may)
+          | inl same ↦ subst (IsGivenAsAwaited M) (same_element (slice_get (slice_set s.requests k new) k) new t (set_there s.requests k new r there) (subst (λ i. slice_get (slice_set s.requests k new) i ≡ Some t) same is)) (fair_more r x (h.fair k r there) may)
           | inr other ↦ h.fair j t (sym (set_elsewhere s.requests k j new other) ∙ is)
         ];
         counted = h.counted;
@@ -107,6 +131,14 @@ module _ (M : Meaning) where
             let p = h.pending n e le is low in
             record { request = p.request; there = set_elsewhere s.requests k e.1.request new (none n e le is) ∙ p.there; ask = p.ask; waits = p.waits };
         alone = h.alone;
+        own = λ n d is. let p = h.own n d is in elim (same_or_not d.request k) [
+          | inl same ↦
+              own_later s (record s { requests = slice_set s.requests k new }) d p r x
+              (same_element (slice_get s.requests k) p.request r (subst (λ i. slice_get s.requests i ≡ Some p.request) same p.there) there)
+              (subst (λ i. slice_get (slice_set s.requests k new) i ≡ Some new) (sym same) (set_there s.requests k new r there))
+          | inr other ↦ own_there s (record s { requests = slice_set s.requests k new }) d p (set_elsewhere s.requests k d.request new other ∙ p.there)
+        ];
+        apart = h.apart;
       }
 
   given_found : (s : State) (k : ℕ) (x : Outside) (o : Option Request) (r : Request) → o ≡ Some r → given_more x o s.requests k ≡ slice_set s.requests k (record r { given = r.given ++ x ∷ [] })
@@ -220,6 +252,39 @@ module _ (M : Meaning) where
     apart n m e f le lt (inl a) (inr b) same = none_due n e le a (same ∙ ap (λ (x : ℕ × ListedSend). x.1.request) (sym b.1))
     apart n m e f le lt (inr a) (inr b) same = omega (arith, lt, a.0, b.0)
 
+    own_new : IsOwnSend M more d
+    own_new =
+        record {
+          request = l.request;
+          there = l.there;
+          given = l.request.given;
+          since = [];
+          front = sym (append-nil l.request.given);
+          send = record { request = h.fair d.request l.request l.there; waits = l.waits; ask_is = l.ask };
+        }
+
+    -- its ask wasn't sent before
+    not_sent : (n : ℕ) (f : ListedSend) → slice_get s.sends n ≡ Some f → f.request ≡ d.request → f.ask ≡ d.ask → ⊥
+    not_sent n f is same ask =
+        let z : is_listed s.sends d.request d.ask ≡ true = subst (λ i. is_listed s.sends d.request i ≡ true) ask (subst (λ j. is_listed s.sends j f.ask ≡ true) same (present_listed s.sends n f is)) in
+        let y : true ≡ false = sym z ∙ l.unlisted in
+        cc
+
+    asks_apart : (n m : ℕ) (e f : ListedSend) → n < m → (slice_get s.sends n ≡ Some e) ⊎ ((n ≡ length s.sends) × (d ≡ e)) → (slice_get s.sends m ≡ Some f) ⊎ ((m ≡ length s.sends) × (d ≡ f)) → e.request ≡ f.request → e.ask ≡ f.ask → ⊥
+    asks_apart n m e f lt (inl a) (inl b) same ask = h.apart n m e f lt a b same ask
+    asks_apart n m e f lt (inr a) (inl b) same ask = omega (arith, lt, a.0, inside s.sends m f b)
+    asks_apart n m e f lt (inl a) (inr b) same ask = not_sent n e a (same ∙ ap (λ (x : ListedSend). x.request) (sym b.1)) (ask ∙ ap (λ (x : ListedSend). x.ask) (sym b.1))
+    asks_apart n m e f lt (inr a) (inr b) same ask = omega (arith, lt, a.0, b.0)
+
+    more_apart : AreAskedOnce more
+    more_apart n m e f lt a b same ask = asks_apart n m e f lt (there_or_new s.sends d n e a) (there_or_new s.sends d m f b) same ask
+
+    own_more : (n : ℕ) (f : ListedSend) → slice_get (s.sends ++ d ∷ []) n ≡ Some f → IsOwnSend M more f
+    own_more n f is = elim (there_or_new s.sends d n f is) [
+      | inl old ↦ same_own s more f refl (h.own n f old)
+      | inr last ↦ subst (IsOwnSend M more) last.1 own_new
+    ]
+
     sound_one : d.responds ≡ true → IsSound more
     sound_one b =
         record {
@@ -231,6 +296,8 @@ module _ (M : Meaning) where
           ];
           alone = λ n m e f le lt there also same.
               apart n m e f le lt (there_or_new (due s) new n e (ap (λ ds. slice_get ds n) (sym (due_one b)) ∙ there)) (there_or_new (due s) new m f (ap (λ ds. slice_get ds m) (sym (due_one b)) ∙ also)) same;
+          own = own_more;
+          apart = more_apart;
         }
 
     sound_none : d.responds ≡ false → IsSound more
@@ -240,6 +307,8 @@ module _ (M : Meaning) where
           counted = subst (λ ds. s.answered ≤ length ds) (sym (due_none b)) h.counted;
           pending = λ n e le is low. same_pending s more e.1 refl (h.pending n e le (ap (λ ds. slice_get ds n) (sym (due_none b)) ∙ is) low);
           alone = λ n m e f le lt there also same. h.alone n m e f le lt (ap (λ ds. slice_get ds n) (sym (due_none b)) ∙ there) (ap (λ ds. slice_get ds m) (sym (due_none b)) ∙ also) same;
+          own = own_more;
+          apart = more_apart;
         }
 
     silent_given : d.responds ≡ false → IsAwaited M (M.status l.request.frame l.request.given) NoResponse
@@ -272,13 +341,15 @@ module _ (M : Meaning) where
         record {
           fair = λ k r there. elim (there_or_new s.requests new k r there) [
             | inl old ↦ h.fair k r old
-            | inr last ↦ subst (IsFairRequest M) last.1 (record { bytes = bytes; is_request = is; awaited = tt })
+            | inr last ↦ subst (IsGivenAsAwaited M) last.1 (record { bytes = bytes; is_request = is; awaited = tt })
           ];
           counted = h.counted;
           pending = λ n e le is low.
               let p = h.pending n e le is low in
               record { request = p.request; there = still_there s.requests new e.1.request p.request p.there; ask = p.ask; waits = p.waits };
           alone = h.alone;
+          own = λ n d there. let p = h.own n d there in own_there s (record s { requests = s.requests ++ new ∷ [] }) d p (still_there s.requests new d.request p.request p.there);
+          apart = h.apart;
         }
     sound_joined frame (Some why) bytes is = sound_cut (length s.requests) (why (length s.requests)) s h
 
@@ -305,6 +376,8 @@ module _ (M : Meaning) where
             counted = omega (arith, inside (due s) s.answered e is);
             pending = λ n f le there low. same_pending s counted_on f.1 refl (h.pending n f (omega (arith, le)) there low);
             alone = λ n m f g le lt there also same. h.alone n m f g (omega (arith, le)) lt there also same;
+            own = λ n d there. same_own s counted_on d refl (h.own n d there);
+            apart = h.apart;
           }
 
       sound_body : (why : Option (ℕ → End)) (body : List ℕ) → AreBytes body → M.unreadable e.1.before body ≡ why → below s.causes.cut e.1.request ≡ true → IsSound (read_body why e.1.request body counted_on)
@@ -455,9 +528,22 @@ module _ (M : Meaning) where
         counted = omega arith;
         pending = λ n e le is low. absurd (let z : None ≡ Some e = is in cc);
         alone = λ n m e f le lt there also same. let z : None ≡ Some e = there in cc;
+        own = λ n d there. absurd (let z : None ≡ Some d = there in cc);
+        apart = λ n m d f lt there also same ask. let z : None ≡ Some d = there in cc;
       }
 
-  pub all_fair : (hs : List Entry) (s : State) → IsHistory M hs s → AllBringBytes hs → All (IsFairRequest M) s.requests
+  pub all_fair : (hs : List Entry) (s : State) → IsHistory M hs s → AllBringBytes hs → All (IsGivenAsAwaited M) s.requests
   all_fair hs s run bytes =
       let h = sound_from opening s hs bytes run sound_opening in
       λ k r lt. h.fair k (get_or s.requests k r) (slice_get-get_or s.requests k r lt)
+
+  pub all_own : (hs : List Entry) (s : State) → IsHistory M hs s → AllBringBytes hs → All (IsOwnSend M s) s.sends
+  all_own hs s run bytes =
+      let h = sound_from opening s hs bytes run sound_opening in
+      λ k d lt. h.own k (get_or s.sends k d) (slice_get-get_or s.sends k d lt)
+
+  pub all_apart : (hs : List Entry) (s : State) → IsHistory M hs s → AllBringBytes hs → AreAskedOnce s
+  all_apart hs s run bytes = (sound_from opening s hs bytes run sound_opening).apart
+
+  pub own_at : (hs : List Entry) (s : State) → IsHistory M hs s → AllBringBytes hs → (n : ℕ) (d : ListedSend) → slice_get s.sends n ≡ Some d → IsOwnSend M s d
+  own_at hs s run bytes n d is = (sound_from opening s hs bytes run sound_opening).own n d is

@@ -6,4 +6,6 @@ mod Supported
 mod Connections
 mod Lists
 mod Histories
+mod Taken
 mod Sent
+mod WorkedAnswers

@@ -116,3 +116,11 @@ pub respond_listed : (ds : List ListedSend) (e : ℕ × ListedSend) (j n : ℕ) 
 respond_listed [] e j zero h = cc
 respond_listed [] e j (suc n) h = cc
 respond_listed (d ∷ ds) e j n h = listed_at d.responds j n d ds e (λ i m. respond_listed ds e i m) h
+
+-- a send's ask is listed
+pub present_listed : (ds : List ListedSend) (n : ℕ) (d : ListedSend) → slice_get ds n ≡ Some d → is_listed ds d.request d.ask ≡ true
+present_listed [] n d h = absurd (let z : None ≡ Some d = h in cc)
+present_listed (x ∷ ds) zero d h =
+    let z : x ≡ d = (let y : Some x ≡ Some d = h in cc) in
+    subst (λ (y : ListedSend). is_listed (x ∷ ds) y.request y.ask ≡ true) z (first_or ((x.request == x.request) && (x.ask == x.ask)) (is_listed ds x.request x.ask) (same_ask x.request x.ask))
+present_listed (x ∷ ds) (suc n) d h = second_or ((x.request == d.request) && (x.ask == d.ask)) (is_listed ds d.request d.ask) (present_listed ds n d h)

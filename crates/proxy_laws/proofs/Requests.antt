@@ -16,7 +16,7 @@ use Rattle.filter_chain.specs.declared.state.ShutCause.TheVariants as cause
 use Rattle.filter_chain.specs.Chain.{Fate, Back, Awaits, Closes, Endless}
 use Rattle.filter_chain.specs.Outcomes.{Needs, Completed, Shuts, NeverEnds, outcome_after, course}
 use Rattle.proxy_laws.specs.Coming.{MayHaveCome}
-use Rattle.proxy_laws.specs.LawfulChains.{CompletesWithItsOwn, IsNeedOf, NeedsWholeMessages, GoesOnOnce, ComesToAnEnd, ShutsByItsOwn, HasFewTurns, turns_within}
+use Rattle.proxy_laws.specs.LawfulChains.{CompletesWithOwnResponse, IsNeedOf, NeedsWholeMessages, HasOneMainSend, ComesToAnEnd, IsShutByOwnFilter, HasFewTurns, turns_within}
 use Rattle.proxy_laws.proofs.Fitting.{come_fit}
 use Rattle.proxy_laws.proofs.Once.{IsMainAsk, AwaitsMain, once_way}
 use Rattle.proxy_laws.proofs.Sound.{IsGood, IsGoodFate, IsAskedFor, coming_answers, good_way}
@@ -82,7 +82,7 @@ module _ (chain : List Turn) (lawful : All IsLawful chain) where
   is_good request given whole come =
       good_way chain (one_by_one IsLawful chain lawful) 0 (length chain) (omega arith) request true given (whole, λ e. absurd (let z : true ≡ false = e in cc)) (come_fit chain request given come)
 
-  pub own_response : CompletesWithItsOwn chain
+  pub own_response : CompletesWithOwnResponse chain
   own_response request given response whole come e = done_answers chain request (length given) (course chain request given).fate (is_good request given whole come).fate response e
 
   pub whole_messages : NeedsWholeMessages chain
@@ -91,8 +91,8 @@ module _ (chain : List Turn) (lawful : All IsLawful chain) where
   pub comes_to_an_end : ComesToAnEnd chain
   comes_to_an_end request given filter whole come e = has_an_end chain request (length given) (course chain request given).fate (is_good request given whole come).fate filter e
 
-  pub shuts_by_its_own : ShutsByItsOwn chain
-  shuts_by_its_own request given filter reason whole come e = shuts_inside chain request (length given) (course chain request given).fate (is_good request given whole come).fate filter reason e
+  pub shut_by_own_filter : IsShutByOwnFilter chain
+  shut_by_own_filter request given filter reason whole come e = shuts_inside chain request (length given) (course chain request given).fate (is_good request given whole come).fate filter reason e
 
   pub few_turns : HasFewTurns chain
   few_turns request given whole come = (is_good request given whole come).few
@@ -105,7 +105,7 @@ awaits_main n (Awaits question) message e = subst IsMainAsk (sym (asks_this (nat
 awaits_main n (Closes filter reason) message e = absurd cc
 awaits_main n (Endless filter) message e = absurd cc
 
-pub goes_on_once : (chain : List Turn) → All IsLawful chain → GoesOnOnce chain
-goes_on_once chain lawful request given x more message again whole come first second =
+pub one_main_send : (chain : List Turn) → All IsLawful chain → HasOneMainSend chain
+one_main_send chain lawful request given x more message again whole come first second =
     once_way chain (one_by_one IsLawful chain lawful) 0 (length chain) (omega arith) request true (whole, λ e. absurd (let z : true ≡ false = e in cc)) given x more (come_fit chain request (given ++ x ∷ more) come)
     (awaits_main (length given) (course chain request given).fate message first) (awaits_main (length (given ++ x ∷ more)) (course chain request (given ++ x ∷ more)).fate again second)

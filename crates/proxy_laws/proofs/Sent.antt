@@ -1,21 +1,23 @@
 -- What a client is sent in a history: the own responses of its first requests.
-use Rattle.std.proofs.Common.{◌≡◌, ◌∙◌, ap, refl, sym, subst, ℕ, zero, suc, List, [], ◌∷◌, ◌++◌, map, take, drop, append_assoc, arith}
+use Rattle.std.proofs.Common.{◌≡◌, ◌∙◌, ap, refl, sym, subst, ℕ, zero, suc, ◌<◌, ◌≤◌, true, List, [], ◌∷◌, ◌++◌, length, map, take, drop, get_or, append_assoc, Some, slice_get, ◌⊎◌, inl, inr, arith}
 use Rattle.std.specs.List.{All, AllByRecursion, AllZip, concat, flat_map}
 use Rattle.std.proofs.lemmas.List.{take-append-drop, map-append}
-use Rattle.std.proofs.lemmas.List.Elements.{All-tail}
+use Rattle.std.proofs.lemmas.List.Elements.{All-tail, All-from_recursion}
 use Rattle.filter_core.specs.Decision.{Turn}
 use Rattle.filter_core.specs.Laws.{IsLawful}
 use Rattle.conn_rules.specs.Meaning.{Meaning}
-use Rattle.conn_rules.specs.State.{Request, State}
+use Rattle.conn_rules.specs.State.{Outside, Request, ListedSend, State}
 use Rattle.conn_rules.specs.History.{Entry, IsHistory, response_bytes, IsAnswered}
 use Rattle.conn_rules.proofs.Order.{order}
 use Rattle.conn_rules.proofs.Requests as rules
 use Rattle.conn_core.specs.Chained.{chained}
 use Rattle.conn_core.proofs.Lasting.{chain_lasts}
-use Rattle.proxy_laws.specs.Awaited.{IsFairRequest, AllBringBytes}
-use Rattle.proxy_laws.specs.OwnResponses.{IsOwnResponse, AreOwnResponses}
-use Rattle.proxy_laws.proofs.Connections.{responds_with_its_own}
-use Rattle.proxy_laws.proofs.Histories.{all_fair}
+use Rattle.proxy_laws.specs.Awaited.{IsGivenAsAwaited, IsAwaitedSend, AllBringBytes}
+use Rattle.proxy_laws.specs.OwnResponses.{IsOwnResponse, HasOwnResponse, AreOwnResponses, HaveOneMainSend, AreMessageSends}
+use Rattle.proxy_laws.proofs.Connections.{done_with_own_response, sends_whole_messages, no_second_main}
+use Rattle.proxy_laws.proofs.Histories.{all_fair, all_own, all_apart, own_at}
+use Rattle.proxy_laws.proofs.Lists.{same_element}
+use Rattle.proxy_laws.proofs.Taken.{sent_in_order}
 
 all_taken : {X : Type 0} (P : X → Type 0) (xs : List X) (n : ℕ) → All P xs → AllByRecursion P (take n xs)
 all_taken P xs zero all = tt
@@ -30,16 +32,34 @@ joined_up : {X : Type 0} (f : X → List ℕ) (xs : List X) → flat_map f xs �
 joined_up f [] = refl
 joined_up f (x ∷ xs) = ap (λ l. f x ++ l) (joined_up f xs)
 
+less_or_not : (n m : ℕ) → (n < m) ⊎ (m ≤ n)
+less_or_not n zero = inr (omega arith)
+less_or_not zero (suc m) = inl (omega arith)
+less_or_not (suc n) (suc m) = elim (less_or_not n m) [
+  | inl h ↦ inl (omega (arith, h))
+  | inr h ↦ inr (omega (arith, h))
+]
+
 module _ (chain : List Turn) (limit : ℕ) (lawful : All IsLawful chain) where
   abbrev M : Meaning
   M = chained chain limit
 
-  own_one : (r : Request) → IsAnswered M r → IsFairRequest M r → IsOwnResponse r.frame (response_bytes (M.status r.frame r.given))
-  own_one r answered fair = subst (λ status. IsOwnResponse r.frame (response_bytes status)) (sym answered.done) (responds_with_its_own chain limit lawful r answered.response fair answered.done)
+  own_one : (r : Request) → IsAnswered M r → IsGivenAsAwaited M r → IsOwnResponse r.frame (response_bytes (M.status r.frame r.given))
+  own_one r answered fair = subst (λ status. IsOwnResponse r.frame (response_bytes status)) (sym answered.done) (done_with_own_response chain limit lawful r answered.response fair answered.done)
 
-  own_each : (rs : List Request) → AllByRecursion (IsAnswered M) rs → AllByRecursion (IsFairRequest M) rs → AllZip IsOwnResponse (map (λ r. r.frame) rs) (map (λ r. response_bytes (M.status r.frame r.given)) rs)
+  own_each : (rs : List Request) → AllByRecursion (IsAnswered M) rs → AllByRecursion (IsGivenAsAwaited M) rs → AllZip IsOwnResponse (map (λ r. r.frame) rs) (map (λ r. response_bytes (M.status r.frame r.given)) rs)
   own_each [] answered fair = tt
   own_each (r ∷ rs) answered fair = (own_one r answered.0 fair.0, own_each rs answered.1 fair.1)
+
+  own_passed : (rs : List Request) → AllByRecursion (IsAnswered M) rs → AllByRecursion (IsGivenAsAwaited M) rs → AllByRecursion (HasOwnResponse M) rs
+  own_passed [] answered given = tt
+  own_passed (r ∷ rs) answered given = (own_one r answered.0 given.0, own_passed rs answered.1 given.1)
+
+  pub own_meanings : (hs : List Entry) (s : State) → IsHistory M hs s → AllBringBytes hs → All (HasOwnResponse M) (take s.passed s.requests)
+  own_meanings hs s run bytes =
+      let in_order = order M hs s (chain_lasts chain limit) run in
+      let rs : List Request = take s.passed s.requests in
+      All-from_recursion (HasOwnResponse M) rs (own_passed rs (all_each (IsAnswered M) rs in_order.answered) (all_taken (IsGivenAsAwaited M) s.requests s.passed (all_fair M hs s run bytes)))
 
   pub own_responses : (hs : List Entry) (s : State) → IsHistory M hs s → AllBringBytes hs → AreOwnResponses hs
   own_responses hs s run bytes =
@@ -56,6 +76,50 @@ module _ (chain : List Turn) (limit : ℕ) (lawful : All IsLawful chain) where
               ∙ append_assoc (map frame rs) (map frame (drop s.passed s.requests)) requests.other,
         );
         responses = map (λ r. response_bytes (M.status r.frame r.given)) rs;
-        own = own_each rs (all_each (IsAnswered M) rs in_order.answered) (all_taken (IsFairRequest M) s.requests s.passed (all_fair M hs s run bytes));
+        own = own_each rs (all_each (IsAnswered M) rs in_order.answered) (all_taken (IsGivenAsAwaited M) s.requests s.passed (all_fair M hs s run bytes));
         sent_is = in_order.sent_is ∙ joined_up (λ (r : Request). response_bytes (M.status r.frame r.given)) rs;
+      }
+
+  -- of two fronts of one list, of which one is longer
+  fronts : (xs ys vs ws : List Outside) → xs ++ vs ≡ ys ++ ws → length xs < length ys → (x : Outside) × (more : List Outside) × (ys ≡ xs ++ x ∷ more)
+  fronts [] [] vs ws e lt = absurd (omega (arith, lt))
+  fronts [] (y ∷ ys) vs ws e lt = (y, ys, refl)
+  fronts (x ∷ xs) [] vs ws e lt = absurd (omega (arith, lt))
+  fronts (x ∷ xs) (y ∷ ys) vs ws e lt =
+      let same : x ≡ y = cc in
+      let rest : xs ++ vs ≡ ys ++ ws = cc in
+      let r = fronts xs ys vs ws rest (omega (arith, lt)) in
+      (r.0, r.1, ap (λ z. z ∷ ys) (sym same) ∙ ap (λ l. x ∷ l) r.2)
+
+  longer_main : (frame : List ℕ) (xs ys vs ws : List Outside) (d f : ListedSend) → xs ++ vs ≡ ys ++ ws → length xs < length ys → IsAwaitedSend M frame xs d → IsAwaitedSend M frame ys f → d.main ≡ true → f.main ≡ true → ⊥
+  longer_main frame xs ys vs ws d f e lt first second main again =
+      let r = fronts xs ys vs ws e lt in
+      no_second_main chain limit lawful frame xs r.0 r.1 d f first (subst (λ l. IsAwaitedSend M frame l f) r.2 second) main again
+
+  main_apart : (frame : List ℕ) (xs ys vs ws : List Outside) (d f : ListedSend) → xs ++ vs ≡ ys ++ ws → (d.ask ≡ f.ask → ⊥) → IsAwaitedSend M frame xs d → IsAwaitedSend M frame ys f → d.main ≡ true → f.main ≡ true → ⊥
+  main_apart frame xs ys vs ws d f e apart first second main again =
+      elim (less_or_not (length xs) (length ys)) [
+        | inl less ↦ longer_main frame xs ys vs ws d f e less first second main again
+        | inr not_less ↦ elim (less_or_not (length ys) (length xs)) [
+          | inl less ↦ longer_main frame ys xs ws vs f d (sym e) less second first again main
+          | inr not_more ↦ apart (first.ask_is ∙ (let z : length xs ≡ length ys = omega (arith, not_less, not_more) in z) ∙ sym second.ask_is)
+        ]
+      ]
+
+  main_sends_apart : (hs : List Entry) (s : State) → IsHistory M hs s → AllBringBytes hs → HaveOneMainSend s
+  main_sends_apart hs s run bytes n m d f lt a b same main again =
+      let p = own_at M hs s run bytes n d a in
+      let q = own_at M hs s run bytes m f b in
+      let r : p.request ≡ q.request = same_element (slice_get s.requests f.request) p.request q.request (subst (λ k. slice_get s.requests k ≡ Some p.request) same p.there) q.there in
+      main_apart q.request.frame p.given q.given p.since q.since d f (sym p.front ∙ ap (λ (u : Request). u.given) r ∙ q.front) (all_apart M hs s run bytes n m d f lt a b same)
+      (subst (λ (u : Request). IsAwaitedSend M u.frame p.given d) r p.send) q.send main again
+
+  pub message_sends : (hs : List Entry) (s : State) → IsHistory M hs s → AllBringBytes hs → AreMessageSends chain hs s
+  message_sends hs s run bytes =
+      record {
+        sent_is = sent_in_order M hs s run;
+        own = λ k d lt.
+            let own = all_own M hs s run bytes k d lt in
+            (own.request, own.there, sends_whole_messages chain limit lawful own.request.frame own.given (get_or s.sends k d) own.send);
+        one_main_send = main_sends_apart hs s run bytes;
       }

@@ -1,10 +1,10 @@
 -- What a connection gives its requests: what each waits for, and nothing else.
-use Rattle.std.specs.Prelude.{◌≡◌, true, false, ℕ, List, [], ◌∷◌, ◌++◌, None, All}
+use Rattle.std.specs.Prelude.{◌≡◌, ◌<◌, true, false, ℕ, List, [], ◌∷◌, ◌++◌, length, Some, None, All, slice_get}
 use Rattle.tree_spelling.specs.Laws.{AreBytes}
 use Rattle.conn_rules.specs.declared.event.Event.{Event}
 use Rattle.conn_rules.specs.declared.event.Event.TheVariants as event
 use Rattle.conn_rules.specs.Meaning.{Meaning, ToBroker, Hold, Status, Waits, Done, Fails}
-use Rattle.conn_rules.specs.State.{Outside, Body, NoResponse, Verdict, Request}
+use Rattle.conn_rules.specs.State.{Outside, Body, NoResponse, Verdict, Request, ListedSend, State}
 use Rattle.conn_rules.specs.History.{Entry}
 
 -- A request that waits for an answer gets a body that can be read, or none where its message gets no response. One that is held
@@ -29,10 +29,30 @@ abbrev pub AreAwaited : Meaning → List ℕ → List Outside → Type 0
 AreAwaited M frame given = AwaitedBehind M frame [] given
 
 -- the frame is a request, and was given what it waited for
-pub record IsFairRequest (M : Meaning) (r : Request) : Type 0 where
+pub record IsGivenAsAwaited (M : Meaning) (r : Request) : Type 0 where
   pub bytes : AreBytes r.frame
   pub is_request : M.no_request r.frame ≡ None
   pub awaited : AreAwaited M r.frame r.given
+
+-- The request in this frame, which was given so much, waited for what this send gets: a response, or that there is none.
+pub record IsAwaitedSend (M : Meaning) (frame : List ℕ) (given : List Outside) (d : ListedSend) : Type 0 where
+  pub request : IsGivenAsAwaited M (record { frame = frame; given = given })
+  pub waits : M.status frame given ≡ Waits (ToBroker d.before d.behind d.main d.responds)
+  pub ask_is : d.ask ≡ length given
+
+-- it is one of its own request's, by what that was given when the send was listed
+pub record IsOwnSend (M : Meaning) (s : State) (d : ListedSend) : Type 0 where
+  pub request : Request
+  pub there : slice_get s.requests d.request ≡ Some request
+  pub given : List Outside
+  pub since : List Outside
+  pub front : request.given ≡ given ++ since
+  pub send : IsAwaitedSend M request.frame given d
+
+-- no ask of a request is sent twice
+abbrev pub AreAskedOnce : State → Type 0
+AreAskedOnce s =
+    (n m : ℕ) (d f : ListedSend) → n < m → slice_get s.sends n ≡ Some d → slice_get s.sends m ≡ Some f → d.request ≡ f.request → d.ask ≡ f.ask → ⊥
 
 -- the frames that an event brings are bytes
 abbrev pub BringsBytes : Event → Type 0

@@ -20,17 +20,17 @@ MayAnswer (ask.Hold filter key) outside.NoResponse = ⊥
 MayAnswer (ask.Hold filter key) (outside.Answer response) = ⊥
 
 -- only a request that needs something is given something
-abbrev pub MayMeet : Outcome → Outside → Type 0
-MayMeet (Needs question) x = MayAnswer question x
-MayMeet (Completed response) x = ⊥
-MayMeet (Shuts cause) x = ⊥
-MayMeet (NeverEnds filter) x = ⊥
+abbrev pub MayBeGiven : Outcome → Outside → Type 0
+MayBeGiven (Needs question) x = MayAnswer question x
+MayBeGiven (Completed response) x = ⊥
+MayBeGiven (Shuts cause) x = ⊥
+MayBeGiven (NeverEnds filter) x = ⊥
 
 -- each of these, which came behind `before`, is what the request needed with those before it
-abbrev pub ComeBehind : List Turn → Contents → List Outside → List Outside → Type 0
-ComeBehind chain request before [] = Unit {0}
-ComeBehind chain request before (x ∷ xs) = MayMeet (run chain request before) x × ComeBehind chain request (before ++ x ∷ []) xs
+abbrev pub MayHaveComeBehind : List Turn → Contents → List Outside → List Outside → Type 0
+MayHaveComeBehind chain request before [] = Unit {0}
+MayHaveComeBehind chain request before (x ∷ xs) = MayBeGiven (run chain request before) x × MayHaveComeBehind chain request (before ++ x ∷ []) xs
 
 -- what a request may have been given from outside
 abbrev pub MayHaveCome : List Turn → Contents → List Outside → Type 0
-MayHaveCome chain request given = ComeBehind chain request [] given
+MayHaveCome chain request given = MayHaveComeBehind chain request [] given

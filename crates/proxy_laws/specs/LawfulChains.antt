@@ -13,8 +13,8 @@ use Rattle.filter_chain.specs.Outcomes.{Needs, Completed, Shuts, NeverEnds, run,
 use Rattle.proxy_laws.specs.Coming.{MayHaveCome}
 
 -- A completed request has a response of its own API and version, or none where it is a Produce with acks 0.
-abbrev pub CompletesWithItsOwn : List Turn → Type 0
-CompletesWithItsOwn chain =
+abbrev pub CompletesWithOwnResponse : List Turn → Type 0
+CompletesWithOwnResponse chain =
     (request : Contents) (given : List Outside) (response : Option Contents) → IsWholeRequest request → MayHaveCome chain request given
     → run chain request given ≡ Completed response → AnswersRequest request response
 
@@ -31,8 +31,8 @@ NeedsWholeMessages chain =
     → run chain request given ≡ Needs question → IsNeedOf chain request question
 
 -- A request goes on to the broker once at most: where it needed the answer to itself, it needs no such answer again, whatever came.
-abbrev pub GoesOnOnce : List Turn → Type 0
-GoesOnOnce chain =
+abbrev pub HasOneMainSend : List Turn → Type 0
+HasOneMainSend chain =
     (request : Contents) (given : List Outside) (x : Outside) (more : List Outside) (message again : Contents) → IsWholeRequest request → MayHaveCome chain request (given ++ x ∷ more)
     → run chain request given ≡ Needs (ask.Broker message true) → run chain request (given ++ x ∷ more) ≢ Needs (ask.Broker again true)
 
@@ -42,8 +42,8 @@ ComesToAnEnd chain =
     (request : Contents) (given : List Outside) (filter : ℕ) → IsWholeRequest request → MayHaveCome chain request given
     → run chain request given ≢ NeverEnds filter
 
-abbrev pub ShutsByItsOwn : List Turn → Type 0
-ShutsByItsOwn chain =
+abbrev pub IsShutByOwnFilter : List Turn → Type 0
+IsShutByOwnFilter chain =
     (request : Contents) (given : List Outside) (filter : ℕ) (reason : Reason) → IsWholeRequest request → MayHaveCome chain request given
     → run chain request given ≡ Shuts (cause.Filter filter reason) → filter < length chain
 

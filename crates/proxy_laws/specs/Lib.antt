@@ -2,3 +2,4 @@ pub mod Coming
 pub mod LawfulChains
 pub mod Awaited
 pub mod OwnResponses
+pub mod WorkedChain

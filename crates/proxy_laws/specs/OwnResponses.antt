@@ -1,21 +1,23 @@
 -- What a client gets for its request, under a chain of lawful filters.
-use Rattle.std.specs.Prelude.{◌≡◌, Bool, false, ℕ, List, [], ◌++◌, MatchBool, IsTrue}
+use Rattle.std.specs.Prelude.{◌≡◌, ◌≢◌, ◌<◌, Bool, true, false, not, ℕ, suc, List, [], ◌∷◌, ◌++◌, take, MatchBool, IsTrue, All, Some, slice_get}
 use Rattle.std.specs.List.{AllZip, concat}
 use Rattle.kp_schema.specs.Messages.{is_supported}
 use Rattle.tree_spelling.specs.Body.{Contents}
 use Rattle.tree_spelling.specs.Spelling.{spelling}
 use Rattle.framing.specs.Frames.{sized}
 use Rattle.framing.specs.CorrelationIds.{request_id}
+use Rattle.wire_types.specs.Numbers.{int16}
+use Rattle.filter_core.specs.Acks.{has_acks_zero}
 use Rattle.filter_core.specs.Decision.{Turn}
 use Rattle.filter_core.specs.Inputs.{IsWholeRequest, IsResponseTo}
 use Rattle.side_requests.specs.declared.ask.Ask.TheVariants as ask
-use Rattle.filter_chain.specs.Outcomes.{Needs}
-use Rattle.conn_rules.specs.Meaning.{Done}
-use Rattle.conn_rules.specs.State.{Request}
-use Rattle.conn_rules.specs.History.{Entry, out, frames_taken, AreFirst}
-use Rattle.conn_core.specs.Requests.{request_of, is_silent, is_told_versions, versions_told}
+use Rattle.filter_chain.specs.Outcomes.{NeverEnds}
+use Rattle.conn_rules.specs.Meaning.{Meaning, Done}
+use Rattle.conn_rules.specs.State.{Outside, Request, ListedSend, State, upstream_frame}
+use Rattle.conn_rules.specs.History.{Entry, response_bytes, out, sent, frames_taken, AreFirst}
+use Rattle.conn_core.specs.Requests.{client_id_spelled, request_of, is_silent, is_told_versions, versions_told}
 use Rattle.conn_core.specs.Chained.{chained, chain_outcome}
-use Rattle.proxy_laws.specs.Awaited.{IsFairRequest}
+use Rattle.proxy_laws.specs.Awaited.{IsGivenAsAwaited, IsAwaitedSend}
 use Rattle.proxy_laws.specs.LawfulChains.{IsNeedOf}
 
 -- the frame of a response: the client's own correlation id, and a body of the request's API and version, whole
@@ -29,22 +31,49 @@ IsOwnResponse frame response =
     MatchBool (is_told_versions frame) (response ≡ versions_told frame) (MatchBool (is_silent frame) (response ≡ []) (IsResponseFrame frame response))
 
 -- each request that is done, in a connection under this chain, has its own response
-abbrev pub RespondsWithItsOwn : List Turn → ℕ → Type 0
-RespondsWithItsOwn chain limit =
-    (r : Request) (response : List ℕ) → IsFairRequest (chained chain limit) r
+abbrev pub DoneWithOwnResponse : List Turn → ℕ → Type 0
+DoneWithOwnResponse chain limit =
+    (r : Request) (response : List ℕ) → IsGivenAsAwaited (chained chain limit) r
     → (chained chain limit).status r.frame r.given ≡ Done response → IsOwnResponse r.frame response
 
--- What a request sends to the broker: whole messages of supported APIs and versions, which are the request itself, with other fields
--- at most, or are asked aside.
-pub record IsFairMessage (chain : List Turn) (frame : List ℕ) (message : Contents) (main : Bool) : Type 0 where
+-- What a request sends to the broker: a whole message of a supported API and version, which is the request itself, with other fields
+-- at most, or is asked aside.
+pub record IsMessageFor (chain : List Turn) (frame : List ℕ) (message : Contents) (main : Bool) : Type 0 where
   pub whole : IsWholeRequest message
   pub supported : IsTrue (is_supported message.key message.version)
   pub need : IsNeedOf chain (request_of frame) (ask.Broker message main)
 
-abbrev pub SendsFairMessages : List Turn → ℕ → Type 0
-SendsFairMessages chain limit =
-    (r : Request) (message : Contents) (main : Bool) → IsFairRequest (chained chain limit) r → is_told_versions r.frame ≡ false
-    → chain_outcome chain r.frame r.given ≡ Needs (ask.Broker message main) → IsFairMessage chain r.frame message main
+-- the send is such a message, under its own API and version, and with the client's own id before its body
+pub record IsMessageSend (chain : List Turn) (frame : List ℕ) (d : ListedSend) : Type 0 where
+  pub message : Contents
+  pub is_for : IsMessageFor chain frame message d.main
+  pub before_is : d.before ≡ int16 message.key ++ int16 message.version
+  pub behind_is : d.behind ≡ client_id_spelled frame ++ spelling message.items
+  pub responds_is : d.responds ≡ not (has_acks_zero message)
+
+abbrev pub SendsWholeMessages : List Turn → ℕ → Type 0
+SendsWholeMessages chain limit = (frame : List ℕ) (given : List Outside) (d : ListedSend) → IsAwaitedSend (chained chain limit) frame given d → IsMessageSend chain frame d
+
+-- no request waits for a filter without an end
+abbrev pub AllComeToAnEnd : List Turn → ℕ → Type 0
+AllComeToAnEnd chain limit =
+    (r : Request) (filter : ℕ) → IsGivenAsAwaited (chained chain limit) r → is_told_versions r.frame ≡ false → chain_outcome chain r.frame r.given ≢ NeverEnds filter
+
+-- a request goes to the broker itself once at most: it has one main send
+abbrev pub HaveOneMainSend : State → Type 0
+HaveOneMainSend s =
+    (n m : ℕ) (d f : ListedSend) → n < m → slice_get s.sends n ≡ Some d → slice_get s.sends m ≡ Some f → d.request ≡ f.request → d.main ≡ true → f.main ≡ true → ⊥
+
+-- the frames of these sends as they go to the broker, the first of them with number j
+abbrev pub upstream_bytes : ℕ → List ListedSend → List ℕ
+upstream_bytes j [] = []
+upstream_bytes j (d ∷ ds) = upstream_frame j d ++ upstream_bytes (suc j) ds
+
+-- What the broker was sent: the first of the sends, one after another under their upstream ids. Each send is a message for its request.
+pub record AreMessageSends (chain : List Turn) (hs : List Entry) (s : State) : Type 0 where
+  pub sent_is : sent hs ≡ upstream_bytes 0 (take s.taken s.sends)
+  pub one_main_send : HaveOneMainSend s
+  pub own : All (λ d. (r : Request) × (slice_get s.requests d.request ≡ Some r) × IsMessageSend chain r.frame d) s.sends
 
 -- What the client was sent: for the first of the frames that were taken from it, one after another, its own response.
 pub record AreOwnResponses (hs : List Entry) : Type 0 where
@@ -53,3 +82,7 @@ pub record AreOwnResponses (hs : List Entry) : Type 0 where
   pub responses : List (List ℕ)
   pub own : AllZip IsOwnResponse frames responses
   pub sent_is : out hs ≡ concat responses
+
+-- what the request means, with all that it was given, is its own response
+abbrev pub HasOwnResponse : Meaning → Request → Type 0
+HasOwnResponse M r = IsOwnResponse r.frame (response_bytes (M.status r.frame r.given))

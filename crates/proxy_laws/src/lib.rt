@@ -14,6 +14,10 @@
 
 mod chains;
 mod responses;
+#[cfg(test)]
+mod tests;
+mod worked;
 
 pub use chains::{filters_are_lawful, lawful_chain_laws};
-pub use responses::{awaited_law, connection_laws, own_responses_law};
+pub use responses::{awaited_law, connection_laws, filters_history_laws, history_laws};
+pub use worked::worked_chain;
