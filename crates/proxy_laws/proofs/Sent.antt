@@ -12,7 +12,7 @@ use Rattle.conn_rules.proofs.Order.{order}
 use Rattle.conn_rules.proofs.Requests as rules
 use Rattle.conn_core.specs.Chained.{chained}
 use Rattle.conn_core.proofs.Lasting.{chain_lasts}
-use Rattle.proxy_laws.specs.Awaited.{IsGivenAsAwaited, IsAwaitedSend, AllBringBytes}
+use Rattle.proxy_laws.specs.Awaited.{IsGivenAsAwaited, IsAwaitedSend, FramesAreBytes}
 use Rattle.proxy_laws.specs.OwnResponses.{IsOwnResponse, HasOwnResponse, AreOwnResponses, HaveOneMainSend, AreMessageSends}
 use Rattle.proxy_laws.proofs.Connections.{done_with_own_response, sends_whole_messages, no_second_main}
 use Rattle.proxy_laws.proofs.Histories.{all_fair, all_own, all_apart, own_at}
@@ -55,13 +55,13 @@ module _ (chain : List Turn) (limit : ℕ) (lawful : All IsLawful chain) where
   own_passed [] answered given = tt
   own_passed (r ∷ rs) answered given = (own_one r answered.0 given.0, own_passed rs answered.1 given.1)
 
-  pub own_meanings : (hs : List Entry) (s : State) → IsHistory M hs s → AllBringBytes hs → All (HasOwnResponse M) (take s.passed s.requests)
+  pub own_meanings : (hs : List Entry) (s : State) → IsHistory M hs s → FramesAreBytes hs → All (HasOwnResponse M) (take s.passed s.requests)
   own_meanings hs s run bytes =
       let in_order = order M hs s (chain_lasts chain limit) run in
       let rs : List Request = take s.passed s.requests in
       All-from_recursion (HasOwnResponse M) rs (own_passed rs (all_each (IsAnswered M) rs in_order.answered) (all_taken (IsGivenAsAwaited M) s.requests s.passed (all_fair M hs s run bytes)))
 
-  pub own_responses : (hs : List Entry) (s : State) → IsHistory M hs s → AllBringBytes hs → AreOwnResponses hs
+  pub own_responses : (hs : List Entry) (s : State) → IsHistory M hs s → FramesAreBytes hs → AreOwnResponses hs
   own_responses hs s run bytes =
       let in_order = order M hs s (chain_lasts chain limit) run in
       let requests = rules.requests M hs s run in
@@ -106,7 +106,7 @@ module _ (chain : List Turn) (limit : ℕ) (lawful : All IsLawful chain) where
         ]
       ]
 
-  main_sends_apart : (hs : List Entry) (s : State) → IsHistory M hs s → AllBringBytes hs → HaveOneMainSend s
+  main_sends_apart : (hs : List Entry) (s : State) → IsHistory M hs s → FramesAreBytes hs → HaveOneMainSend s
   main_sends_apart hs s run bytes n m d f lt a b same main again =
       let p = own_at M hs s run bytes n d a in
       let q = own_at M hs s run bytes m f b in
@@ -114,7 +114,7 @@ module _ (chain : List Turn) (limit : ℕ) (lawful : All IsLawful chain) where
       main_apart q.request.frame p.given q.given p.since q.since d f (sym p.front ∙ ap (λ (u : Request). u.given) r ∙ q.front) (all_apart M hs s run bytes n m d f lt a b same)
       (subst (λ (u : Request). IsAwaitedSend M u.frame p.given d) r p.send) q.send main again
 
-  pub message_sends : (hs : List Entry) (s : State) → IsHistory M hs s → AllBringBytes hs → AreMessageSends chain hs s
+  pub message_sends : (hs : List Entry) (s : State) → IsHistory M hs s → FramesAreBytes hs → AreMessageSends chain hs s
   message_sends hs s run bytes =
       record {
         sent_is = sent_in_order M hs s run;
