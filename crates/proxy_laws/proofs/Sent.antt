@@ -1,5 +1,5 @@
 -- What a client is sent in a history: the own responses of its first requests.
-use Rattle.std.proofs.Common.{◌≡◌, ◌∙◌, ap, refl, sym, subst, ℕ, zero, suc, ◌<◌, ◌≤◌, true, List, [], ◌∷◌, ◌++◌, length, map, take, drop, get_or, append_assoc, Some, slice_get, ◌⊎◌, inl, inr, arith}
+use Rattle.std.proofs.Common.{◌≡◌, ◌∙◌, ap, refl, sym, subst, ℕ, zero, suc, ◌<◌, true, List, [], ◌∷◌, ◌++◌, length, map, take, drop, get_or, append_assoc, Some, slice_get, inl, inr, arith}
 use Rattle.std.specs.List.{All, AllByRecursion, AllZip, concat, flat_map}
 use Rattle.std.proofs.lemmas.List.{take-append-drop, map-append}
 use Rattle.std.proofs.lemmas.List.Elements.{All-tail, All-from_recursion}
@@ -16,7 +16,7 @@ use Rattle.proxy_laws.specs.Awaited.{IsGivenAsAwaited, IsAwaitedSend, FramesAreB
 use Rattle.proxy_laws.specs.OwnResponses.{IsOwnResponse, HasOwnResponse, AreOwnResponses, HaveOneMainSend, AreMessageSends}
 use Rattle.proxy_laws.proofs.Connections.{done_with_own_response, sends_whole_messages, no_second_main}
 use Rattle.proxy_laws.proofs.Histories.{all_fair, all_own, all_apart, own_at}
-use Rattle.proxy_laws.proofs.Lists.{same_element}
+use Rattle.proxy_laws.proofs.Lists.{less_or_not, same_element}
 use Rattle.proxy_laws.proofs.Taken.{sent_in_order}
 
 all_taken : {X : Type 0} (P : X → Type 0) (xs : List X) (n : ℕ) → All P xs → AllByRecursion P (take n xs)
@@ -31,14 +31,6 @@ all_each P (x ∷ xs) all = (all 0 x (omega arith), all_each P xs (All-tail P x 
 joined_up : {X : Type 0} (f : X → List ℕ) (xs : List X) → flat_map f xs ≡ concat (map f xs)
 joined_up f [] = refl
 joined_up f (x ∷ xs) = ap (λ l. f x ++ l) (joined_up f xs)
-
-less_or_not : (n m : ℕ) → (n < m) ⊎ (m ≤ n)
-less_or_not n zero = inr (omega arith)
-less_or_not zero (suc m) = inl (omega arith)
-less_or_not (suc n) (suc m) = elim (less_or_not n m) [
-  | inl h ↦ inl (omega (arith, h))
-  | inr h ↦ inr (omega (arith, h))
-]
 
 module _ (chain : List Turn) (limit : ℕ) (lawful : All IsLawful chain) where
   abbrev M : Meaning

@@ -1,4 +1,6 @@
-ghost use Rattle.std.specs.Prelude.{List, ℕ, All, map, take};
+ghost use Rattle.std.specs.Prelude.{◌++◌, List, ℕ, All, flat_map, map, take};
+ghost use Rattle.tree_spelling.specs.Laws.{AreBytes};
+ghost use Rattle.framing.specs.Frames.{sized};
 ghost use Rattle.filter_core.specs.Decision.{Turn};
 ghost use Rattle.filter_core.specs.Laws.{IsLawful};
 ghost use Rattle.conn_rules.specs.Meaning.{Meaning};
@@ -49,3 +51,8 @@ pub fn filters_history_laws<F: Filter>(filters: &[F])
     filters_are_lawful(filters);
     history_laws();
 }
+
+/// The frames at the front of a stream of bytes are bytes.
+pub fn frames_law()
+    ensures { (frames : List (List ℕ)) (rest : List ℕ) → AreBytes (flat_map sized frames ++ rest) → All AreBytes frames }
+{}
