@@ -40,7 +40,8 @@ pub fn config_answer(alloc: Global, asked: Asked, text: &[u8]) -> Result<ConfigA
     }
 }
 
-fn refused(alloc: Global, why: &[u8]) -> Result<Blob, NoMemory>
+// The line of a refusal.
+pub(crate) fn refused(alloc: Global, why: &[u8]) -> Result<Blob, NoMemory>
     ensures { IfOk result (λ line. line ≡ refused_text why.now) }
 {
     let mut line = Vec::new(alloc);

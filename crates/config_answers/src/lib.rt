@@ -1,4 +1,5 @@
-//! What is written of a configuration file: its number of clusters, which port leads where, or why it is refused.
+//! What is written of a configuration file: its number of clusters, which port leads where, or why it is refused. And
+//! the plan of one of its clusters, by name.
 //!
 //! ```text
 //!   bytes --read--> Plans --told--> "ok 1"  |  "cluster alpha", "bootstrap 19092 h:9092", ..
@@ -11,6 +12,7 @@
 
 mod answer;
 mod asked;
+mod cluster;
 mod laws;
 mod plan_text;
 #[cfg(test)]
@@ -18,4 +20,5 @@ mod tests;
 
 pub use answer::{CONFIG_LIMIT, ConfigAnswer, config_answer};
 pub use asked::Asked;
+pub use cluster::{ClusterAnswer, cluster_answer};
 pub use laws::front_law;

@@ -172,3 +172,63 @@ fn the_longest_configuration(rt: HostRuntime) -> Result<(), Fail> {
     front_law();
     Ok(())
 }
+
+// The bootstrap port of the plan that is found, or the line.
+fn found(alloc: Global, name: &str, text: &str) -> Result<(u16, String), Fail> {
+    match cluster_answer(alloc, name.as_bytes(), text.as_bytes()) {
+        Ok(ClusterAnswer::Found(plan)) => Ok((plan.port, String::new(alloc))),
+        Ok(ClusterAnswer::Refused(line)) => {
+            let line = std::str::from_utf8(line.as_slice()).ok().ok_or("text")?;
+            Ok((0, String::from_str(alloc, line)?))
+        }
+        Err(_) => Err("memory".into()),
+    }
+}
+
+#[test]
+fn clusters_by_their_names(rt: HostRuntime) -> Result<(), Fail> {
+    let alloc = rt.alloc();
+    let mut file = String::from_str(alloc, ALPHA)?;
+    file.push_str(BETA)?;
+    file.push_str("prefix = \"b-\"\n")?;
+    file.push_str(
+        "[[cluster]]\nname = \"alp\"\nlisten = \"h\"\nadvertise = \"h\"\nport = 7\nfirst_node = 0\nbootstrap = \"a:1\"\nnodes = [\"a:1\"]\n",
+    )?;
+    file.push_str(
+        "[[cluster]]\nname = \"alph\"\nlisten = \"h\"\nadvertise = \"h\"\nport = 9\nfirst_node = 0\nbootstrap = \"a:1\"\nnodes = [\"a:1\"]\n",
+    )?;
+    let none = "refused no-cluster\n";
+    let table = [
+        ("alp", 7, ""),
+        ("alph", 9, ""),
+        ("alpha", 0, none),
+        ("beta", 0, none),
+        ("al", 0, none),
+        ("alphabet", 0, none),
+        ("Alp", 0, none),
+        ("", 0, none),
+    ];
+    for (name, port, line) in table {
+        let (found_port, text) = found(alloc, name, file.as_str())?;
+        assert_eq!(rt; text.as_str(), line, "{name}");
+        assert_eq!(rt; found_port, port, "{name}");
+    }
+    Ok(())
+}
+
+// The configuration's fault is told before the name is looked for.
+#[test]
+fn a_cluster_of_a_refused_configuration(rt: HostRuntime) -> Result<(), Fail> {
+    let alloc = rt.alloc();
+    for (from, to, want) in CHANGES {
+        let file = changed(alloc, from, to)?;
+        for name in ["alpha", "none"] {
+            let (_, text) = found(alloc, name, file.as_str())?;
+            assert_eq!(rt; text.as_str(), *want);
+        }
+    }
+    let file = padded(alloc, CONFIG_LIMIT + 1)?;
+    let (_, text) = found(alloc, "alpha", file.as_str())?;
+    assert_eq!(rt; text.as_str(), "refused too-long\n");
+    Ok(())
+}

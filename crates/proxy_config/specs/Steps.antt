@@ -9,7 +9,7 @@ use Rattle.virtual_cluster.specs.declared.address.Address.{Address}
 use Rattle.virtual_cluster.specs.declared.plan.ClusterPlan.{ClusterPlan}
 use Rattle.virtual_cluster.specs.declared.filter_plan.FilterPlan.{FilterPlan}
 use Rattle.proxy_config.specs.Texts.{comma_parts}
-use Rattle.proxy_config.specs.Values.{Given, are_addresses, addresses, first_strange, filters}
+use Rattle.proxy_config.specs.Values.{Given, are_addresses, address_list, first_strange, filters}
 use Rattle.proxy_config.specs.Meant.{key_place, first_fault, clusters_checks, clusters_plans}
 use Rattle.proxy_config.specs.declared.fault.ConfigFault.{ConfigFault}
 use Rattle.proxy_config.specs.declared.fault.ConfigFault.TheVariants.{Missing, WrongType, BadValue, UnknownKey, UnknownFilter, NoMemory}
@@ -48,7 +48,7 @@ parts_behind (Some text) = comma_parts text.now
 -- the addresses, where all texts are some
 abbrev pub AreFound : Items → Option (Vec Address Global) → Type 0
 AreFound ds None = are_addresses ds ≡ false
-AreFound ds (Some found) = (are_addresses ds ≡ true) × (found.items ≡ addresses ds)
+AreFound ds (Some found) = (are_addresses ds ≡ true) × (found.items ≡ address_list ds)
 
 -- the filters, where all texts ask for some
 abbrev pub AreFilters : Option ℕ → Items → Result (Vec FilterPlan Global) ConfigFault → Type 0

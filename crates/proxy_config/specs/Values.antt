@@ -75,14 +75,14 @@ abbrev pub are_addresses : Items → Bool
 are_addresses no_items = true
 are_addresses (item d ds) = is_some (address_of (text_of d)) && are_addresses ds
 
-abbrev pub addresses : Items → List Address
-addresses no_items = []
-addresses (item d ds) = option_to_list (address_of (text_of d)) ++ addresses ds
+abbrev pub address_list : Items → List Address
+address_list no_items = []
+address_list (item d ds) = option_to_list (address_of (text_of d)) ++ address_list ds
 
 -- addresses: first each has to be a string
 abbrev pub addresses_in : Place → Data → Given (List Address)
 addresses_in p (array ds) =
-    if are_texts ds then (if are_addresses ds then Ok (addresses ds) else Err (BadValue p)) else Err (WrongType p)
+    if are_texts ds then (if are_addresses ds then Ok (address_list ds) else Err (BadValue p)) else Err (WrongType p)
 addresses_in p _ = Err (WrongType p)
 
 -- the first text that asks for no filter

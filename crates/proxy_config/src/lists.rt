@@ -2,7 +2,7 @@
 ghost use Rattle.std.specs.Prelude.{◌≡◌, ◌≤◌, IfOk, is_some, length};
 ghost use Rattle.toml.specs.Data.{as_str, as_table};
 ghost use Rattle.toml.specs.View.{view, items_view};
-ghost use Rattle.proxy_config.specs.Values.{text_of, are_texts, texts, texts_in, are_addresses, addresses, addresses_in, filters_in, are_tables, items_count, tables_in};
+ghost use Rattle.proxy_config.specs.Values.{text_of, are_texts, texts, texts_in, are_addresses, address_list, addresses_in, filters_in, are_tables, items_count, tables_in};
 ghost use Rattle.proxy_config.specs.Meant.{key_place, IsMeant};
 ghost use Rattle.proxy_config.specs.Steps.{AreFound, AreFilters, IsMeantAs};
 

@@ -4,7 +4,7 @@ use Rattle.std.specs.List.{slice_get, find, list_all}
 use Rattle.virtual_cluster.specs.declared.plan.ClusterPlan.{ClusterPlan}
 use Rattle.virtual_cluster.specs.declared.address.Address.{Address}
 use Rattle.virtual_cluster.specs.declared.fault.LimitKey.{LimitKey}
-use Rattle.virtual_cluster.specs.declared.fault.LimitKey.TheVariants.{FirstNode, Nodes}
+use Rattle.virtual_cluster.specs.declared.fault.LimitKey.TheVariants.{FirstNode, Nodes, InFlight}
 use Rattle.virtual_cluster.specs.Limits.{IsValid, limits, first_broken, broken_limit, is_in_range, is_host, is_first_node, are_nodes}
 use Rattle.std.proofs.lemmas.Bool.Decides.{nat_tests}
 
@@ -40,3 +40,11 @@ nodes_from nodes kept =
 pub nodes-bound : (plan : ClusterPlan) → IsValid plan → length plan.nodes ≤ 64
 unfolding broken_limit
 nodes-bound plan valid = nodes_from plan.nodes (all_kept (limits plan) valid.within_limits 5 (Nodes, are_nodes plan.nodes) refl)
+
+in_flight_from : (n : ℕ) → is_in_range 1 64 n ≡ true → (1 ≤ n) × (n ≤ 64)
+in_flight_from n kept = (grind (arith, nat_tests), grind (arith, nat_tests))
+
+pub in_flight-bound : (plan : ClusterPlan) → IsValid plan → (1 ≤ plan.in_flight) × (plan.in_flight ≤ 64)
+unfolding broken_limit
+in_flight-bound plan valid =
+    in_flight_from plan.in_flight (all_kept (limits plan) valid.within_limits 9 (InFlight, is_in_range 1 64 plan.in_flight) refl)

@@ -2,7 +2,7 @@
 use Rattle.std.specs.Prelude.{◌≡◌, ℕ, ◌+◌, ◌<◌, ◌≤◌, ◌==◌, nat_le, Bool, true, false, ◌&&◌, ◌||◌, List, [], ◌∷◌, length, slice_get, Option, Some, None, unwrap_or, is_some, if◌then◌else◌, Result, Ok, Err}
 use Rattle.std.specs.Str.{bytes_eq}
 use Rattle.std.specs.Option.{option_or}
-use Rattle.std.specs.List.{list_any}
+use Rattle.std.specs.List.{list_any, find}
 use Rattle.virtual_cluster.specs.Names.{prefix_begins}
 use Rattle.virtual_cluster.specs.Limits.{broken_limit, last_port, has_ports}
 use Rattle.virtual_cluster.specs.declared.address.Address.{Address}
@@ -95,3 +95,7 @@ ArePrefixesApart plans =
     (a b : ℕ) (p q : ClusterPlan) → a < b → slice_get plans a ≡ Some p → slice_get plans b ≡ Some q
     → share_target p q ≡ true → (is_some p.prefix || is_some q.prefix) ≡ true
     → (prefix_begins (prefix_of p) (prefix_of q) ≡ false) × (prefix_begins (prefix_of q) (prefix_of p) ≡ false)
+
+-- the first plan with that name
+abbrev pub plan_named : List ℕ → List ClusterPlan → Option ClusterPlan
+plan_named name plans = find (λ plan. bytes_eq plan.name name) plans

@@ -1,8 +1,8 @@
-ghost use Rattle.std.specs.Prelude.{◌≡◌, ◌≤◌, length, vec_len, IfOk, All};
+ghost use Rattle.std.specs.Prelude.{◌≡◌, ◌≤◌, ◌<◌, length, vec_len, slice_get, Some, IfOk, IfSome, All};
 ghost use Rattle.std.specs.List.{position_from};
 ghost use Rattle.std.specs.Str.{bytes_eq};
 ghost use Rattle.virtual_cluster.specs.Limits.{IsValid};
-ghost use Rattle.virtual_cluster.specs.Pairs.{plans_fault, checked_plans, AreSound, ArePrefixesApart};
+ghost use Rattle.virtual_cluster.specs.Pairs.{plans_fault, checked_plans, plan_named, AreSound, ArePrefixesApart};
 
 use crate::pairs::{first_own_fault, first_pair_fault};
 use crate::sequence::Sequence;
@@ -54,6 +54,17 @@ impl Plans {
         self.list.as_slice()
     }
 
+    /// The plan with that name, taken out of the list.
+    pub fn into_named(self, name: &[u8]) -> Option<ClusterPlan>
+        ensures named { result ≡ plan_named name.now self }
+        ensures valid { IfSome result IsValid }
+    {
+        match number_of(self.list.as_slice(), name) {
+            Some(number) => Some(taken(self.list.into_vec(), number as usize)),
+            None => None,
+        }
+    }
+
     /// The number of the plan with that name.
     pub fn named(&self, name: &[u8]) -> Option<u32>
         ensures { result ≡ position_from (λ plan. bytes_eq plan.name name.now) 0 self.now }
@@ -84,4 +95,12 @@ fn number_of(plans: &[ClusterPlan], name: &[u8]) -> Option<u32>
         }
     }
     None
+}
+
+// The plan with that number, out of the list.
+fn taken(mut list: Vec<ClusterPlan>, number: usize) -> ClusterPlan
+    requires { number < length list.items }
+    ensures { slice_get list.items number ≡ Some result }
+{
+    list.swap_remove(number)
 }

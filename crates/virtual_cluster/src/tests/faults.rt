@@ -379,4 +379,20 @@ fn sixty_four_plans_are_served(rt: HostRuntime) {
     ] {
         assert_eq!(rt; (name, plans.named(name.as_bytes())), (name, want));
     }
+    let last = plans.into_named(b"hh").expect(&rt, "the last");
+    assert_eq!(rt;
+        (last.name.as_slice(), last.port),
+        (b"hh".as_slice(), 5_095)
+    );
+}
+
+#[test]
+fn a_name_that_no_plan_has(rt: HostRuntime) {
+    for name in ["", "x", "abc", "AB"] {
+        let mut list = Vec::new(rt.alloc());
+        list.push(plan(&rt, rt.alloc(), "ab", 19_092))
+            .expect(&rt, "memory");
+        let plans = Plans::new(list).ok().expect(&rt, "no fault");
+        assert!(rt; plans.into_named(name.as_bytes()).is_none());
+    }
 }

@@ -1,0 +1,4 @@
+pub mod PlanLimits
+pub mod Skipping
+pub mod NodesGivenBack
+pub mod FieldsOfNodes

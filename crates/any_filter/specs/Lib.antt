@@ -1,0 +1,3 @@
+pub mod AnyTurn
+pub mod AnyLaws
+pub mod Chains

@@ -1,0 +1,64 @@
+ghost use Rattle.std.specs.Prelude.{◌≡◌};
+ghost use Rattle.any_filter.specs.declared.any_pending.AnyPending.TheVariants as pending;
+ghost use Rattle.any_filter.specs.AnyTurn.{move_with};
+
+use address_rewrite::Addressing;
+use filter_core::Move;
+use stock_filters::{Forwarded, Listing, Screened};
+
+/// What the filter in an [`AnyFilter`](crate::AnyFilter) keeps between two moves.
+#[derive(Drop)]
+pub enum AnyPending {
+    Forwarded(Forwarded),
+    Screened(Screened),
+    Listing(Listing),
+    Addressing(Addressing),
+}
+
+pub(crate) fn with_forwarded(made: Move<Forwarded>) -> Move<AnyPending>
+    ensures { result ≡ move_with pending.Forwarded made }
+{
+    match made {
+        Move::Forward(message, kept) => Move::Forward(message, AnyPending::Forwarded(kept)),
+        Move::Side(message, kept) => Move::Side(message, AnyPending::Forwarded(kept)),
+        Move::Hold(key, kept) => Move::Hold(key, AnyPending::Forwarded(kept)),
+        Move::Return(response) => Move::Return(response),
+        Move::Shut(reason) => Move::Shut(reason),
+    }
+}
+
+pub(crate) fn with_screened(made: Move<Screened>) -> Move<AnyPending>
+    ensures { result ≡ move_with pending.Screened made }
+{
+    match made {
+        Move::Forward(message, kept) => Move::Forward(message, AnyPending::Screened(kept)),
+        Move::Side(message, kept) => Move::Side(message, AnyPending::Screened(kept)),
+        Move::Hold(key, kept) => Move::Hold(key, AnyPending::Screened(kept)),
+        Move::Return(response) => Move::Return(response),
+        Move::Shut(reason) => Move::Shut(reason),
+    }
+}
+
+pub(crate) fn with_listing(made: Move<Listing>) -> Move<AnyPending>
+    ensures { result ≡ move_with pending.Listing made }
+{
+    match made {
+        Move::Forward(message, kept) => Move::Forward(message, AnyPending::Listing(kept)),
+        Move::Side(message, kept) => Move::Side(message, AnyPending::Listing(kept)),
+        Move::Hold(key, kept) => Move::Hold(key, AnyPending::Listing(kept)),
+        Move::Return(response) => Move::Return(response),
+        Move::Shut(reason) => Move::Shut(reason),
+    }
+}
+
+pub(crate) fn with_addressing(made: Move<Addressing>) -> Move<AnyPending>
+    ensures { result ≡ move_with pending.Addressing made }
+{
+    match made {
+        Move::Forward(message, kept) => Move::Forward(message, AnyPending::Addressing(kept)),
+        Move::Side(message, kept) => Move::Side(message, AnyPending::Addressing(kept)),
+        Move::Hold(key, kept) => Move::Hold(key, AnyPending::Addressing(kept)),
+        Move::Return(response) => Move::Return(response),
+        Move::Shut(reason) => Move::Shut(reason),
+    }
+}
