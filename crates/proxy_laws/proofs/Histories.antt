@@ -5,7 +5,7 @@ use Rattle.std.specs.Ordering.{int_eq}
 use Rattle.std.proofs.lemmas.Bool.Decides.{nat_tests}
 use Rattle.std.proofs.lemmas.List.{get_or-drop, length_push}
 use Rattle.std.proofs.lemmas.Option.{slice_get-get_or}
-use Rattle.std.proofs.lemmas.List.Elements.{All-tail}
+use Rattle.std.proofs.lemmas.List.Elements.{All-nil, All-cons, All-tail}
 use Rattle.kp_edge.specs.declared.end.End.{End}
 use Rattle.kp_edge.specs.declared.end.End.TheVariants as end
 use Rattle.tree_spelling.specs.Laws.{AreBytes}
@@ -14,6 +14,7 @@ use Rattle.conn_rules.specs.declared.event.Event.{Event}
 use Rattle.conn_rules.specs.declared.event.Event.TheVariants as event
 use Rattle.conn_rules.specs.declared.event.Reply.{Reply}
 use Rattle.conn_rules.specs.declared.event.Reply.TheVariants as reply
+use Rattle.conn_rules.specs.declared.event.TakeFault.TheVariants as take_fault
 use Rattle.conn_rules.specs.declared.event.Fault.{Fault}
 use Rattle.conn_rules.specs.declared.event.Fault.TheVariants as fault
 use Rattle.conn_rules.specs.declared.event.CompleteFault.TheVariants as complete_fault
@@ -22,9 +23,17 @@ use Rattle.conn_rules.specs.State.{Outside, Body, NoResponse, Verdict, Request, 
 use Rattle.conn_rules.specs.Causes.{below, cut_cause, with_cut, client_ended, broker_ended, are_ending, are_dead, are_still}
 use Rattle.conn_rules.specs.Settling.{Act, CutAt, Lists, is_listed, lets_later_go, act_of, or_else, act_from, next_act, listed, acted, after_acts}
 use Rattle.conn_rules.specs.Steps.{joined, read_body, matched, attributed, answer_step, hold_of, hold_in, open_hold, is_hold, complete_step, client_end, faulted, noted, sent_next, first_hold, picked_next, response_in, silent_passed, over_or, respond_or, told_again, emit_step, answer_to, StepOrNoMemory}
-use Rattle.conn_rules.specs.History.{Entry, LeadsTo, IsHistory}
-use Rattle.proxy_laws.specs.Awaited.{IsAwaited, AwaitedBehind, IsGivenAsAwaited, IsAwaitedSend, IsOwnSend, AreAskedOnce, BringsBytes, AllBringBytes}
+use Rattle.conn_rules.specs.History.{Entry, LeadsTo, IsHistory, client_frame, broker_frame, client_frames, broker_frames}
+use Rattle.proxy_laws.specs.Awaited.{IsAwaited, AwaitedBehind, IsGivenAsAwaited, IsAwaitedSend, IsOwnSend, AreAskedOnce, FramesAreBytes}
 use Rattle.proxy_laws.proofs.Lists.{if_responding, still_there, there_or_new, set_there, set_elsewhere, same_element, inside, same_or_not, respond_taken, respond_more, respond_listed, present_listed}
+
+all_left : {X : Type 0} (P : X → Type 0) (xs ys : List X) → All P (xs ++ ys) → All P xs
+all_left P [] ys all = All-nil P
+all_left P (x ∷ xs) ys all = All-cons P x xs (all 0 x (omega arith)) (all_left P xs ys (All-tail P x (xs ++ ys) all))
+
+all_right : {X : Type 0} (P : X → Type 0) (xs ys : List X) → All P (xs ++ ys) → All P ys
+all_right P [] ys all = all
+all_right P (x ∷ xs) ys all = all_right P xs ys (All-tail P x (xs ++ ys) all)
 
 module _ (M : Meaning) where
   -- a send whose answer has to come: its request waits for that, where it is below the cut
@@ -357,10 +366,15 @@ module _ (M : Meaning) where
     answer_either true x y f g = f
     answer_either false x y f g = g
 
-    sound_take : (frame : List ℕ) → AreBytes frame → IsSound (answer_to M s (event.Take frame)).1
-    sound_take frame bytes =
-        answer_either (are_ending s.causes) _ _ h
-        (answer_either (M.room (in_flight s) (held s) (length frame)) _ _ (sound_joined frame (M.no_request frame) bytes refl) h)
+    take_case : (frame : List ℕ) (ending room : Bool)
+        → All AreBytes (client_frame (event.Take frame) (if◌then◌else◌ {A = Reply × State} ending (reply.Take (Err (take_fault.Ending frame)), s) (if room then (reply.Take (Ok tt), joined (M.no_request frame) frame s) else (reply.Take (Err (take_fault.Full (in_flight s) (held s) frame)), s))).0)
+        → IsSound (if◌then◌else◌ {A = Reply × State} ending (reply.Take (Err (take_fault.Ending frame)), s) (if room then (reply.Take (Ok tt), joined (M.no_request frame) frame s) else (reply.Take (Err (take_fault.Full (in_flight s) (held s) frame)), s))).1
+    take_case frame true room bytes = h
+    take_case frame false true bytes = sound_joined frame (M.no_request frame) (bytes 0 frame (omega arith)) refl
+    take_case frame false false bytes = h
+
+    sound_take : (frame : List ℕ) → All AreBytes (client_frame (event.Take frame) (answer_to M s (event.Take frame)).0) → IsSound (answer_to M s (event.Take frame)).1
+    sound_take frame bytes = take_case frame (are_ending s.causes) (M.room (in_flight s) (held s) (length frame)) bytes
 
     drop_small : (n : ℕ) (bytes : List ℕ) → AreBytes bytes → AreBytes (drop n bytes)
     drop_small n bytes small i = omega (arith, get_or-drop n bytes i 0, small (n + i))
@@ -500,26 +514,28 @@ module _ (M : Meaning) where
       (sound_over_or (cut_cause t.causes.cut t.passed) t _ there
       (sound_respond_or (response_in M (slice_get t.requests t.passed)) t _ there (sound_over_or s.causes.death t _ there there))))
 
-  sound_answered : (s : State) (e : Event) → BringsBytes e → IsSound s → IsSound (answer_to M s e).1
-  sound_answered s (event.Take frame) bytes h = sound_take s h frame bytes
-  sound_answered s (event.Answer frame) bytes h = sound_answer s h frame bytes
-  sound_answered s (event.Complete k i verdict) bytes h = sound_complete s h k i verdict
-  sound_answered s (event.ClientEnd rest) bytes h = sound_noted s h _ (sound_client_end s h rest)
-  sound_answered s (event.BrokerEnd rest) bytes h = sound_noted s h _ (sound_dead (broker_ended rest (waiting s)) s h)
-  sound_answered s (event.Fault x) bytes h = sound_noted s h _ (sound_fault s h x)
-  sound_answered s event.Send bytes h = answer_either s h (is_some s.causes.death || is_some s.causes.halt) _ _ h (sound_sent s h (slice_get s.sends s.taken))
-  sound_answered s event.Emit bytes h = sound_emit s h
-  sound_answered s event.Pick bytes h = answer_either s h (are_still s.causes) _ _ h (sound_picked s h (first_hold M s.causes.cut s.picked 0 s.requests))
-  sound_answered s event.Look bytes h = h
+  sound_answered : (s : State) (e : Event) → All AreBytes (client_frame e (answer_to M s e).0) → All AreBytes (broker_frame e) → IsSound s → IsSound (answer_to M s e).1
+  sound_answered s (event.Take frame) client broker h = sound_take s h frame client
+  sound_answered s (event.Answer frame) client broker h = sound_answer s h frame (broker 0 frame (omega arith))
+  sound_answered s (event.Complete k i verdict) client broker h = sound_complete s h k i verdict
+  sound_answered s (event.ClientEnd rest) client broker h = sound_noted s h _ (sound_client_end s h rest)
+  sound_answered s (event.BrokerEnd rest) client broker h = sound_noted s h _ (sound_dead (broker_ended rest (waiting s)) s h)
+  sound_answered s (event.Fault x) client broker h = sound_noted s h _ (sound_fault s h x)
+  sound_answered s event.Send client broker h = answer_either s h (is_some s.causes.death || is_some s.causes.halt) _ _ h (sound_sent s h (slice_get s.sends s.taken))
+  sound_answered s event.Emit client broker h = sound_emit s h
+  sound_answered s event.Pick client broker h = answer_either s h (are_still s.causes) _ _ h (sound_picked s h (first_hold M s.causes.cut s.picked 0 s.requests))
+  sound_answered s event.Look client broker h = h
 
-  sound_event : (s t : State) (e : Event) (r : Reply) → BringsBytes e → StepOrNoMemory M s e r t → IsSound s → IsSound t
-  sound_event s t e r bytes (inl step) h = subst IsSound step.settles.after (sound_acts step.settles.acts (answer_to M s e).1 (sound_answered s e bytes h))
-  sound_event s t e r bytes (inr gives) h = subst IsSound (sym gives.halts) (sound_halted end.NoMemory s h)
+  sound_event : (s t : State) (e : Event) (r : Reply) → All AreBytes (client_frame e r) → All AreBytes (broker_frame e) → StepOrNoMemory M s e r t → IsSound s → IsSound t
+  sound_event s t e r client broker (inl step) h =
+      subst IsSound step.settles.after (sound_acts step.settles.acts (answer_to M s e).1 (sound_answered s e (subst (λ q. All AreBytes (client_frame e q)) step.reply client) broker h))
+  sound_event s t e r client broker (inr gives) h = subst IsSound (sym gives.halts) (sound_halted end.NoMemory s h)
 
-  sound_from : (s t : State) (hs : List Entry) → AllBringBytes hs → LeadsTo M s hs t → IsSound s → IsSound t
-  sound_from s t [] bytes run h = subst IsSound (sym run) h
-  sound_from s t (x ∷ hs) bytes run h =
-      sound_from run.0 t hs (All-tail (λ (y : Entry). BringsBytes y.event) x hs bytes) run.2 (sound_event s run.0 x.event x.reply (bytes 0 x (omega arith)) run.1 h)
+  sound_from : (s t : State) (hs : List Entry) → All AreBytes (client_frames hs) → All AreBytes (broker_frames hs) → LeadsTo M s hs t → IsSound s → IsSound t
+  sound_from s t [] client broker run h = subst IsSound (sym run) h
+  sound_from s t (x ∷ hs) client broker run h =
+      sound_from run.0 t hs (all_right AreBytes (client_frame x.event x.reply) (client_frames hs) client) (all_right AreBytes (broker_frame x.event) (broker_frames hs) broker) run.2
+      (sound_event s run.0 x.event x.reply (all_left AreBytes (client_frame x.event x.reply) (client_frames hs) client) (all_left AreBytes (broker_frame x.event) (broker_frames hs) broker) run.1 h)
 
   sound_opening : IsSound opening
   sound_opening =
@@ -532,18 +548,18 @@ module _ (M : Meaning) where
         apart = λ n m d f lt there also same ask. let z : None ≡ Some d = there in cc;
       }
 
-  pub all_fair : (hs : List Entry) (s : State) → IsHistory M hs s → AllBringBytes hs → All (IsGivenAsAwaited M) s.requests
+  pub all_fair : (hs : List Entry) (s : State) → IsHistory M hs s → FramesAreBytes hs → All (IsGivenAsAwaited M) s.requests
   all_fair hs s run bytes =
-      let h = sound_from opening s hs bytes run sound_opening in
+      let h = sound_from opening s hs bytes.0 bytes.1 run sound_opening in
       λ k r lt. h.fair k (get_or s.requests k r) (slice_get-get_or s.requests k r lt)
 
-  pub all_own : (hs : List Entry) (s : State) → IsHistory M hs s → AllBringBytes hs → All (IsOwnSend M s) s.sends
+  pub all_own : (hs : List Entry) (s : State) → IsHistory M hs s → FramesAreBytes hs → All (IsOwnSend M s) s.sends
   all_own hs s run bytes =
-      let h = sound_from opening s hs bytes run sound_opening in
+      let h = sound_from opening s hs bytes.0 bytes.1 run sound_opening in
       λ k d lt. h.own k (get_or s.sends k d) (slice_get-get_or s.sends k d lt)
 
-  pub all_apart : (hs : List Entry) (s : State) → IsHistory M hs s → AllBringBytes hs → AreAskedOnce s
-  all_apart hs s run bytes = (sound_from opening s hs bytes run sound_opening).apart
+  pub all_apart : (hs : List Entry) (s : State) → IsHistory M hs s → FramesAreBytes hs → AreAskedOnce s
+  all_apart hs s run bytes = (sound_from opening s hs bytes.0 bytes.1 run sound_opening).apart
 
-  pub own_at : (hs : List Entry) (s : State) → IsHistory M hs s → AllBringBytes hs → (n : ℕ) (d : ListedSend) → slice_get s.sends n ≡ Some d → IsOwnSend M s d
-  own_at hs s run bytes n d is = (sound_from opening s hs bytes run sound_opening).own n d is
+  pub own_at : (hs : List Entry) (s : State) → IsHistory M hs s → FramesAreBytes hs → (n : ℕ) (d : ListedSend) → slice_get s.sends n ≡ Some d → IsOwnSend M s d
+  own_at hs s run bytes n d is = (sound_from opening s hs bytes.0 bytes.1 run sound_opening).own n d is

@@ -7,5 +7,6 @@ mod Connections
 mod Lists
 mod Histories
 mod Taken
+mod Bytes
 mod Sent
 mod WorkedAnswers

@@ -1,5 +1,5 @@
 -- Elements of lists by their place.
-use Rattle.std.proofs.Common.{◌≡◌, ◌∙◌, ap, refl, ℕ, zero, suc, ◌+◌, ◌<◌, ◌==◌, ◌&&◌, ◌||◌, subst, Bool, true, false, if◌then◌else◌, List, [], ◌∷◌, ◌++◌, length, take, Option, Some, None, slice_get, slice_set, ◌⊎◌, inl, inr, arith}
+use Rattle.std.proofs.Common.{◌≡◌, ◌∙◌, ap, refl, ℕ, zero, suc, ◌+◌, ◌<◌, ◌==◌, ◌&&◌, ◌||◌, subst, Bool, true, false, if◌then◌else◌, List, [], ◌∷◌, ◌++◌, length, take, Option, Some, None, slice_get, slice_set, ◌⊎◌, inl, inr, arith, ◌≤◌}
 use Rattle.std.proofs.lemmas.Bool.Decides.{nat_tests}
 use Rattle.conn_rules.specs.State.{ListedSend, responding}
 use Rattle.conn_rules.specs.Settling.{is_listed}
@@ -124,3 +124,11 @@ present_listed (x ∷ ds) zero d h =
     let z : x ≡ d = (let y : Some x ≡ Some d = h in cc) in
     subst (λ (y : ListedSend). is_listed (x ∷ ds) y.request y.ask ≡ true) z (first_or ((x.request == x.request) && (x.ask == x.ask)) (is_listed ds x.request x.ask) (same_ask x.request x.ask))
 present_listed (x ∷ ds) (suc n) d h = second_or ((x.request == d.request) && (x.ask == d.ask)) (is_listed ds d.request d.ask) (present_listed ds n d h)
+
+pub less_or_not : (n m : ℕ) → (n < m) ⊎ (m ≤ n)
+less_or_not n zero = inr (omega arith)
+less_or_not zero (suc m) = inl (omega arith)
+less_or_not (suc n) (suc m) = elim (less_or_not n m) [
+  | inl h ↦ inl (omega (arith, h))
+  | inr h ↦ inr (omega (arith, h))
+]

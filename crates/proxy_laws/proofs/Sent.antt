@@ -1,5 +1,5 @@
 -- What a client is sent in a history: the own responses of its first requests.
-use Rattle.std.proofs.Common.{◌≡◌, ◌∙◌, ap, refl, sym, subst, ℕ, zero, suc, ◌<◌, ◌≤◌, true, List, [], ◌∷◌, ◌++◌, length, map, take, drop, get_or, append_assoc, Some, slice_get, ◌⊎◌, inl, inr, arith}
+use Rattle.std.proofs.Common.{◌≡◌, ◌∙◌, ap, refl, sym, subst, ℕ, zero, suc, ◌<◌, true, List, [], ◌∷◌, ◌++◌, length, map, take, drop, get_or, append_assoc, Some, slice_get, inl, inr, arith}
 use Rattle.std.specs.List.{All, AllByRecursion, AllZip, concat, flat_map}
 use Rattle.std.proofs.lemmas.List.{take-append-drop, map-append}
 use Rattle.std.proofs.lemmas.List.Elements.{All-tail, All-from_recursion}
@@ -12,11 +12,11 @@ use Rattle.conn_rules.proofs.Order.{order}
 use Rattle.conn_rules.proofs.Requests as rules
 use Rattle.conn_core.specs.Chained.{chained}
 use Rattle.conn_core.proofs.Lasting.{chain_lasts}
-use Rattle.proxy_laws.specs.Awaited.{IsGivenAsAwaited, IsAwaitedSend, AllBringBytes}
+use Rattle.proxy_laws.specs.Awaited.{IsGivenAsAwaited, IsAwaitedSend, FramesAreBytes}
 use Rattle.proxy_laws.specs.OwnResponses.{IsOwnResponse, HasOwnResponse, AreOwnResponses, HaveOneMainSend, AreMessageSends}
 use Rattle.proxy_laws.proofs.Connections.{done_with_own_response, sends_whole_messages, no_second_main}
 use Rattle.proxy_laws.proofs.Histories.{all_fair, all_own, all_apart, own_at}
-use Rattle.proxy_laws.proofs.Lists.{same_element}
+use Rattle.proxy_laws.proofs.Lists.{less_or_not, same_element}
 use Rattle.proxy_laws.proofs.Taken.{sent_in_order}
 
 all_taken : {X : Type 0} (P : X → Type 0) (xs : List X) (n : ℕ) → All P xs → AllByRecursion P (take n xs)
@@ -31,14 +31,6 @@ all_each P (x ∷ xs) all = (all 0 x (omega arith), all_each P xs (All-tail P x 
 joined_up : {X : Type 0} (f : X → List ℕ) (xs : List X) → flat_map f xs ≡ concat (map f xs)
 joined_up f [] = refl
 joined_up f (x ∷ xs) = ap (λ l. f x ++ l) (joined_up f xs)
-
-less_or_not : (n m : ℕ) → (n < m) ⊎ (m ≤ n)
-less_or_not n zero = inr (omega arith)
-less_or_not zero (suc m) = inl (omega arith)
-less_or_not (suc n) (suc m) = elim (less_or_not n m) [
-  | inl h ↦ inl (omega (arith, h))
-  | inr h ↦ inr (omega (arith, h))
-]
 
 module _ (chain : List Turn) (limit : ℕ) (lawful : All IsLawful chain) where
   abbrev M : Meaning
@@ -55,13 +47,13 @@ module _ (chain : List Turn) (limit : ℕ) (lawful : All IsLawful chain) where
   own_passed [] answered given = tt
   own_passed (r ∷ rs) answered given = (own_one r answered.0 given.0, own_passed rs answered.1 given.1)
 
-  pub own_meanings : (hs : List Entry) (s : State) → IsHistory M hs s → AllBringBytes hs → All (HasOwnResponse M) (take s.passed s.requests)
+  pub own_meanings : (hs : List Entry) (s : State) → IsHistory M hs s → FramesAreBytes hs → All (HasOwnResponse M) (take s.passed s.requests)
   own_meanings hs s run bytes =
       let in_order = order M hs s (chain_lasts chain limit) run in
       let rs : List Request = take s.passed s.requests in
       All-from_recursion (HasOwnResponse M) rs (own_passed rs (all_each (IsAnswered M) rs in_order.answered) (all_taken (IsGivenAsAwaited M) s.requests s.passed (all_fair M hs s run bytes)))
 
-  pub own_responses : (hs : List Entry) (s : State) → IsHistory M hs s → AllBringBytes hs → AreOwnResponses hs
+  pub own_responses : (hs : List Entry) (s : State) → IsHistory M hs s → FramesAreBytes hs → AreOwnResponses hs
   own_responses hs s run bytes =
       let in_order = order M hs s (chain_lasts chain limit) run in
       let requests = rules.requests M hs s run in
@@ -106,7 +98,7 @@ module _ (chain : List Turn) (limit : ℕ) (lawful : All IsLawful chain) where
         ]
       ]
 
-  main_sends_apart : (hs : List Entry) (s : State) → IsHistory M hs s → AllBringBytes hs → HaveOneMainSend s
+  main_sends_apart : (hs : List Entry) (s : State) → IsHistory M hs s → FramesAreBytes hs → HaveOneMainSend s
   main_sends_apart hs s run bytes n m d f lt a b same main again =
       let p = own_at M hs s run bytes n d a in
       let q = own_at M hs s run bytes m f b in
@@ -114,7 +106,7 @@ module _ (chain : List Turn) (limit : ℕ) (lawful : All IsLawful chain) where
       main_apart q.request.frame p.given q.given p.since q.since d f (sym p.front ∙ ap (λ (u : Request). u.given) r ∙ q.front) (all_apart M hs s run bytes n m d f lt a b same)
       (subst (λ (u : Request). IsAwaitedSend M u.frame p.given d) r p.send) q.send main again
 
-  pub message_sends : (hs : List Entry) (s : State) → IsHistory M hs s → AllBringBytes hs → AreMessageSends chain hs s
+  pub message_sends : (hs : List Entry) (s : State) → IsHistory M hs s → FramesAreBytes hs → AreMessageSends chain hs s
   message_sends hs s run bytes =
       record {
         sent_is = sent_in_order M hs s run;

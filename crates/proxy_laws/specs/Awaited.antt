@@ -1,11 +1,9 @@
 -- What a connection gives its requests: what each waits for, and nothing else.
 use Rattle.std.specs.Prelude.{◌≡◌, ◌<◌, true, false, ℕ, List, [], ◌∷◌, ◌++◌, length, Some, None, All, slice_get}
 use Rattle.tree_spelling.specs.Laws.{AreBytes}
-use Rattle.conn_rules.specs.declared.event.Event.{Event}
-use Rattle.conn_rules.specs.declared.event.Event.TheVariants as event
 use Rattle.conn_rules.specs.Meaning.{Meaning, ToBroker, Hold, Status, Waits, Done, Fails}
 use Rattle.conn_rules.specs.State.{Outside, Body, NoResponse, Verdict, Request, ListedSend, State}
-use Rattle.conn_rules.specs.History.{Entry}
+use Rattle.conn_rules.specs.History.{Entry, client_frames, broker_frames}
 
 -- A request that waits for an answer gets a body that can be read, or none where its message gets no response. One that is held
 -- gets a verdict.
@@ -54,11 +52,6 @@ abbrev pub AreAskedOnce : State → Type 0
 AreAskedOnce s =
     (n m : ℕ) (d f : ListedSend) → n < m → slice_get s.sends n ≡ Some d → slice_get s.sends m ≡ Some f → d.request ≡ f.request → d.ask ≡ f.ask → ⊥
 
--- the frames that an event brings are bytes
-abbrev pub BringsBytes : Event → Type 0
-BringsBytes (event.Take frame) = AreBytes frame
-BringsBytes (event.Answer frame) = AreBytes frame
-BringsBytes _ = Unit {0}
-
-abbrev pub AllBringBytes : List Entry → Type 0
-AllBringBytes hs = All (λ h. BringsBytes h.event) hs
+-- the frames that were handed on for good, the client's and the broker's, are bytes
+abbrev pub FramesAreBytes : List Entry → Type 0
+FramesAreBytes hs = All AreBytes (client_frames hs) × All AreBytes (broker_frames hs)

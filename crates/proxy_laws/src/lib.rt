@@ -19,5 +19,5 @@ mod tests;
 mod worked;
 
 pub use chains::{filters_are_lawful, lawful_chain_laws};
-pub use responses::{awaited_law, connection_laws, filters_history_laws, history_laws};
+pub use responses::{awaited_law, connection_laws, filters_history_laws, frames_law, history_laws};
 pub use worked::worked_chain;

@@ -1,11 +1,13 @@
-ghost use Rattle.std.specs.Prelude.{List, ℕ, All, map, take};
+ghost use Rattle.std.specs.Prelude.{◌++◌, List, ℕ, All, flat_map, map, take};
+ghost use Rattle.tree_spelling.specs.Laws.{AreBytes};
+ghost use Rattle.framing.specs.Frames.{sized};
 ghost use Rattle.filter_core.specs.Decision.{Turn};
 ghost use Rattle.filter_core.specs.Laws.{IsLawful};
 ghost use Rattle.conn_rules.specs.Meaning.{Meaning};
 ghost use Rattle.conn_rules.specs.State.{State};
 ghost use Rattle.conn_rules.specs.History.{Entry, IsHistory};
 ghost use Rattle.conn_core.specs.Chained.{chained};
-ghost use Rattle.proxy_laws.specs.Awaited.{IsGivenAsAwaited, IsOwnSend, AreAskedOnce, AllBringBytes};
+ghost use Rattle.proxy_laws.specs.Awaited.{IsGivenAsAwaited, IsOwnSend, AreAskedOnce, FramesAreBytes};
 ghost use Rattle.proxy_laws.specs.OwnResponses.{DoneWithOwnResponse, SendsWholeMessages, AllComeToAnEnd, AreOwnResponses, HasOwnResponse, AreMessageSends};
 
 use crate::chains::filters_are_lawful;
@@ -14,9 +16,9 @@ use filter_core::Filter;
 /// Whatever comes, in whatever order, each request of a connection is given what it waits for, and nothing else. Each send is
 /// one that its request waited for, and none is sent twice. It is so under every meaning of requests.
 pub fn awaited_law()
-    ensures requests { (M : Meaning) (hs : List Entry) (s : State) → IsHistory M hs s → AllBringBytes hs → All (IsGivenAsAwaited M) s.requests }
-    ensures sends { (M : Meaning) (hs : List Entry) (s : State) → IsHistory M hs s → AllBringBytes hs → All (IsOwnSend M s) s.sends }
-    ensures asked_once { (M : Meaning) (hs : List Entry) (s : State) → IsHistory M hs s → AllBringBytes hs → AreAskedOnce s }
+    ensures requests { (M : Meaning) (hs : List Entry) (s : State) → IsHistory M hs s → FramesAreBytes hs → All (IsGivenAsAwaited M) s.requests }
+    ensures sends { (M : Meaning) (hs : List Entry) (s : State) → IsHistory M hs s → FramesAreBytes hs → All (IsOwnSend M s) s.sends }
+    ensures asked_once { (M : Meaning) (hs : List Entry) (s : State) → IsHistory M hs s → FramesAreBytes hs → AreAskedOnce s }
 {}
 
 /// What a request gets, and what it sends, in a connection under a chain of lawful filters.
@@ -32,20 +34,25 @@ pub fn connection_laws()
 /// What a client and a broker are sent, in every history of a connection under a chain of lawful filters.
 pub fn history_laws()
     // For the first of its frames, one after another, the client is sent its own response.
-    ensures own_responses { (chain : List Turn) (limit : ℕ) (hs : List Entry) (s : State) → All IsLawful chain → IsHistory (chained chain limit) hs s → AllBringBytes hs → AreOwnResponses hs }
+    ensures own_responses { (chain : List Turn) (limit : ℕ) (hs : List Entry) (s : State) → All IsLawful chain → IsHistory (chained chain limit) hs s → FramesAreBytes hs → AreOwnResponses hs }
     // These are what the requests mean under the chain, with all that they were given.
-    ensures own_meanings { (chain : List Turn) (limit : ℕ) (hs : List Entry) (s : State) → All IsLawful chain → IsHistory (chained chain limit) hs s → AllBringBytes hs
+    ensures own_meanings { (chain : List Turn) (limit : ℕ) (hs : List Entry) (s : State) → All IsLawful chain → IsHistory (chained chain limit) hs s → FramesAreBytes hs
         → All (HasOwnResponse (chained chain limit)) (take s.passed s.requests) }
     // The broker is sent the sends in order. Each is a whole message of a supported API and version, and a request itself is sent
     // once at most.
-    ensures message_sends { (chain : List Turn) (limit : ℕ) (hs : List Entry) (s : State) → All IsLawful chain → IsHistory (chained chain limit) hs s → AllBringBytes hs → AreMessageSends chain hs s }
+    ensures message_sends { (chain : List Turn) (limit : ℕ) (hs : List Entry) (s : State) → All IsLawful chain → IsHistory (chained chain limit) hs s → FramesAreBytes hs → AreMessageSends chain hs s }
 {}
 
 /// The same for filters as code, in order from the client to the broker.
 pub fn filters_history_laws<F: Filter>(filters: &[F])
-    ensures own_responses { (limit : ℕ) (hs : List Entry) (s : State) → IsHistory (chained (map F.turn filters.now) limit) hs s → AllBringBytes hs → AreOwnResponses hs }
-    ensures message_sends { (limit : ℕ) (hs : List Entry) (s : State) → IsHistory (chained (map F.turn filters.now) limit) hs s → AllBringBytes hs → AreMessageSends (map F.turn filters.now) hs s }
+    ensures own_responses { (limit : ℕ) (hs : List Entry) (s : State) → IsHistory (chained (map F.turn filters.now) limit) hs s → FramesAreBytes hs → AreOwnResponses hs }
+    ensures message_sends { (limit : ℕ) (hs : List Entry) (s : State) → IsHistory (chained (map F.turn filters.now) limit) hs s → FramesAreBytes hs → AreMessageSends (map F.turn filters.now) hs s }
 {
     filters_are_lawful(filters);
     history_laws();
 }
+
+/// The frames at the front of a stream of bytes are bytes.
+pub fn frames_law()
+    ensures { (frames : List (List ℕ)) (rest : List ℕ) → AreBytes (flat_map sized frames ++ rest) → All AreBytes frames }
+{}
