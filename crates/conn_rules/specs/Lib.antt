@@ -4,6 +4,7 @@ pub mod State
 pub mod Settling
 pub mod Sweep
 pub mod Steps
+pub mod Work
 pub mod History
 pub mod Connections
 pub mod Worked

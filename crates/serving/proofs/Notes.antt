@@ -1,24 +1,23 @@
 -- What becomes of a connection whose causes change, and nothing else.
-use Rattle.std.proofs.Common.{◌≡◌, ◌≢◌, ◌∙◌, ap, refl, sym, subst, ℕ, zero, suc, ◌+◌, ◌≤◌, ◌<◌, Bool, true, false, ◌&&◌, ◌||◌, is_some, if◌then◌else◌, List, [], ◌∷◌, length, Option, Some, None, slice_get, arith, ◌⊎◌, inl, inr}
+use Rattle.std.proofs.Common.{◌≡◌, ◌∙◌, ap, refl, sym, subst, ℕ, suc, ◌+◌, ◌≤◌, Bool, true, false, ◌&&◌, if◌then◌else◌, List, [], ◌∷◌, length, Option, Some, None, slice_get, arith, inl, inr}
 use Rattle.kp_edge.specs.declared.end.End.{End}
 use Rattle.kp_edge.specs.declared.end.End.TheVariants as end
 use Rattle.conn_rules.specs.declared.causes.Causes.{Causes}
 use Rattle.conn_rules.specs.declared.event.Event.{Event}
 use Rattle.conn_rules.specs.declared.event.Reply.{Reply}
-use Rattle.conn_rules.specs.Causes.{first_cause, below, with_cut, with_death, with_halt, with_told, client_ended, after_client_end}
+use Rattle.conn_rules.specs.Causes.{first_cause, below, with_cut, with_death, with_halt, with_told}
 use Rattle.conn_rules.specs.Meaning.{Meaning}
-use Rattle.conn_rules.specs.Settling.{Act, or_else, act_of, act_from, next_act, lets_later_go, Settles}
+use Rattle.conn_rules.specs.Settling.{Act, or_else, act_from, next_act, lets_later_go, Settles}
 use Rattle.conn_rules.specs.State.{Outside, Request, ListedSend, State, halted}
 use Rattle.conn_rules.specs.Steps.{answer_to, memory_answer, TakesMemory, StepOrNoMemory}
-use Rattle.conn_rules.specs.Sweep.{SweepLaws}
 use Rattle.conn_rules.proofs.Sweep.{sweeps}
-use Rattle.correlation.specs.IsWindow.{IsWindow, WindowLaws}
+use Rattle.correlation.specs.IsWindow.{IsWindow}
 use Rattle.serving.specs.Flights.{first_of}
 use Rattle.serving.specs.Slots.{Keeps}
 use Rattle.correlation.proofs.WindowLaws.{laws}
 use Rattle.correlation.specs.WindowOf.{window_of}
 use Rattle.serving.specs.declared.flight.Flight.{Flight}
-use Rattle.serving.specs.Listing.{SameFor, IsCutBehind, SameOutside, Carries}
+use Rattle.serving.specs.Listing.{SameFor, IsCutBehind, Carries}
 use Rattle.serving.specs.Stands.{Stands}
 use Rattle.serving.proofs.Freed.{uncut}
 use Rattle.serving.proofs.Same.{keeps_same, passed_same, untouched_same, low_before_cut, behind_cut}
