@@ -48,9 +48,6 @@ rest_lower M s c lower h = rest_from M s.sends s.causes.cut c.cut lower 0 true s
 pub steps : (M : Meaning) (s t : State) (e : Event) (r : Reply) → answer_to M s e ≡ (r, t) → next_act M t ≡ None → StepOrNoMemory M s e r t
 steps M s t e r is rest = inl (record { reply = ap (λ x. x.0) (sym is); settles = rw is ((sweeps M).rests t rest) })
 
-pub steps_settling : (M : Meaning) (s t u : State) (e : Event) (r : Reply) → answer_to M s e ≡ (r, t) → Settles M t u → StepOrNoMemory M s e r u
-steps_settling M s t u e r is settles = inl (record { reply = ap (λ x. x.0) (sym is); settles = rw is settles })
-
 pub gives_up : (M : Meaning) (s t : State) (e : Event) (taken r : Reply) → TakesMemory s e → answer_to M s e ≡ (taken, t) → memory_answer taken ≡ Some r → StepOrNoMemory M s e r (halted end.NoMemory s)
 gives_up M s t e taken r takes is refused = inr (record { takes = takes; reply = rw is refused; halts = refl })
 
