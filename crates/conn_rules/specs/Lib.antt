@@ -4,8 +4,8 @@ pub mod State
 pub mod Settling
 pub mod Sweep
 pub mod Steps
-pub mod Work
 pub mod History
+pub mod Work
 pub mod Connections
 pub mod Worked
 pub mod Room
