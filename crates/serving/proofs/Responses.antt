@@ -42,7 +42,8 @@ use Rattle.serving.specs.Slots.{awaits_response, has_hold, one_if, pending, Keep
 use Rattle.serving.specs.Listing.{SameFor, SameOutside, SameCounts, Carries, GivesAt, CountsAt, FlightSettles}
 use Rattle.serving.specs.Stands.{Stands, FlightGives, GivesBodyBy, FlightGivesBodyBy, FlightGivesBody, cut_flight, dead_flight, refusal_end}
 use Rattle.serving.proofs.Places.{eqb_same, eqb_other, set_here}
-use Rattle.serving.proofs.Same.{low_before_cut, not_low_at_cut, behind_cut}
+use Rattle.conn_rules.proofs.Resting.{low_before_cut}
+use Rattle.serving.proofs.Same.{not_low_at_cut, behind_cut}
 use Rattle.serving.proofs.Owed.{owed, pending_is, owed_answered}
 use Rattle.serving.proofs.Notes.{carries_same, rest_lower, steps, gives_up, stands_dead}
 use Rattle.serving.proofs.Working.{Reaches, reaches_rest, grows_given, grows_trans}
