@@ -1,4 +1,5 @@
 // `replay` over a cluster of a configuration.
+use super::by_holds::HOLDS_OVER;
 use super::*;
 
 // A cluster of one node, named `lab`. Other keys may stand behind it.
@@ -8,9 +9,9 @@ const LAB: &str =
 const PORTS: &str = "port = 19092\nfirst_node = 0\n";
 
 // The other keys of the cluster, and an exchange over it.
-struct Over {
-    keys: &'static str,
-    exchange: Exchange,
+pub(crate) struct Over {
+    pub(crate) keys: &'static str,
+    pub(crate) exchange: Exchange,
 }
 
 const CLUSTERS: &[Over] = &[
@@ -215,29 +216,39 @@ fn lab_with(alloc: Global, keys: &str) -> Result<String, Fail> {
     Ok(text)
 }
 
-#[test]
-fn exchanges_over_a_cluster(rt: HostRuntime) -> Result<(), Fail> {
-    let alloc = rt.alloc();
-    for over in CLUSTERS {
+// How the first exchange that goes another way over its cluster differs. No text where none differs.
+fn first_other_over(alloc: Global, table: &[Over]) -> Result<String, Fail> {
+    for over in table {
         let file = lab_with(alloc, over.keys)?;
         let (script, text) = script_of(alloc, &over.exchange)?;
+        let name = over.exchange.name;
         for piece in [1, 7, 4096] {
-            let (status, found) = ran_over(
-                alloc,
-                &["replay", "f", "lab"],
-                file.as_str(),
-                script.as_str(),
-                piece,
-                &NONE,
-            )?;
-            let name = over.exchange.name;
+            let words = ["replay", "f", "lab"];
+            let script = script.as_str();
+            let (status, found) = ran_over(alloc, &words, file.as_str(), script, piece, &NONE)?;
             if found.as_str() != text.as_str() {
                 let line = first_line(alloc, text.as_str(), found.as_str())?;
-                assert_eq!(rt; line.as_str(), "", "{name}, in pieces of {piece}");
+                return Ok(format!(in alloc; "{name}, in pieces of {piece}: {line}")?);
             }
-            assert_eq!(rt; status, Status::Done, "{name}, in pieces of {piece}");
+            if status != Status::Done {
+                return Ok(format!(in alloc; "{name}, in pieces of {piece}: status {status:?}")?);
+            }
         }
     }
+    Ok(String::new(alloc))
+}
+
+#[test]
+fn exchanges_over_a_cluster(rt: HostRuntime) -> Result<(), Fail> {
+    let other = first_other_over(rt.alloc(), CLUSTERS)?;
+    assert_eq!(rt; other.as_str(), "");
+    Ok(())
+}
+
+#[test]
+fn holds_over_a_cluster(rt: HostRuntime) -> Result<(), Fail> {
+    let other = first_other_over(rt.alloc(), HOLDS_OVER)?;
+    assert_eq!(rt; other.as_str(), "");
     Ok(())
 }
 
