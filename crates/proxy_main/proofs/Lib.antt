@@ -12,3 +12,4 @@ pub mod SoFar
 pub mod Word
 pub mod Stepping
 pub mod FileAnswering
+pub mod OwnReplies
