@@ -16,9 +16,12 @@ CLUSTER = CONFIG / "src" / "cluster.rt"
 READING = CONFIG / "src" / "reading.rt"
 PLAN_REFUSALS = TOP / "crates" / "virtual_cluster" / "specs" / "Refusals.antt"
 COMMANDS = TOP / "crates" / "config_answers" / "specs" / "ConfigAnswers.antt"
+CLUSTERS = TOP / "crates" / "config_answers" / "specs" / "ClusterAnswers.antt"
 PAGE = TOP / "docs" / "CONFIG.md"
 EXAMPLES = TOP / "examples" / "config"
+CLUSTER_EXAMPLES = TOP / "examples" / "filters"
 LARGE = "too-long"  # its example is made by `scripts/program.py`
+NO_CLUSTER = "no-cluster"  # `replay` alone tells it
 
 # The type that a key has, by the reader of its value.
 TYPES = {
@@ -93,7 +96,9 @@ def refusals():
             word = needed(re.search(r'codes "([^"]*)"', right), f"{file}: the word of {fault}").group(1).strip()
             yield " ".join([word] + [{"p": "WHERE", "key": "KEY"}.get(field, field.upper()) for field in fields])
     if 'codes "too-long"' in COMMANDS.read_text():
-        yield "too-long"
+        yield LARGE
+    if f'codes "{NO_CLUSTER}"' in CLUSTERS.read_text():
+        yield NO_CLUSTER
 
 
 # The page: its tables, by their heads.
@@ -134,9 +139,9 @@ def page_refusals():
 
 def lacking_examples(texts):
     for word in {text.split()[0]: None for text in texts}:
-        example = EXAMPLES / f"{word}.check"
+        example = CLUSTER_EXAMPLES / f"{word}.out" if word == NO_CLUSTER else EXAMPLES / f"{word}.check"
         if word != LARGE and not (example.is_file() and example.read_text().startswith(f"refused {word}")):
-            yield f"{EXAMPLES.name}: there is no example {word} that is refused for it"
+            yield f"{example.parent.name}: there is no example {word} that is refused for it"
 
 
 def differences():

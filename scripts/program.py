@@ -153,6 +153,11 @@ FAULTY_WORDS = {
     "a file before check": [b"/dev/null", b"check"],
     "check of a word that isn't UTF-8": [b"check", b"/dev/null\xff"],
     "replay with a file": [b"replay", b"/dev/null"],
+    "replay of a cluster that begins with -": [b"replay", b"/dev/null", b"-lab"],
+    "replay of a file that begins with -": [b"replay", b"-f", b"lab"],
+    "replay of two clusters": [b"replay", b"/dev/null", b"lab", b"lab"],
+    "a cluster before replay": [b"lab", b"replay", b"/dev/null"],
+    "replay of a cluster that isn't UTF-8": [b"replay", b"/dev/null", b"\xff"],
 }
 
 
@@ -331,6 +336,28 @@ def answers_a_file_that_may_not_be_read(path):
         answers_a_path(path, name, b"", FILES_FAULT)
 
 
+# Clusters.
+
+
+UNPREFIXED = CONFIG.replace(b'prefix = "alpha-"\n', b"")
+
+
+def replays_a_cluster(path):
+    with path_of(UNPREFIXED) as name, file_of(text_of(EXCHANGE)) as script:
+        expect(path, [b"replay", name, b"alpha"], script, answers_to(EXCHANGE), DONE)
+
+
+def serves_no_cluster(path, data, cluster, line):
+    """The input is a pipe that stays open, so that a read of it would wait."""
+    with path_of(data) as name, pipe() as (reader, _):
+        expect(path, [b"replay", name, cluster], reader, b"refused " + line + b"\n", REFUSED)
+
+
+def finds_no_file_of_clusters(path):
+    with pipe() as (reader, _):
+        expect(path, [b"replay", b"/nothing/there", b"alpha"], reader, b"", FILES_FAULT)
+
+
 # Pipes that stay open.
 
 
@@ -484,6 +511,12 @@ def cases(path):
     yield "file: a directory", answers_a_path, (path, b"/", b"", FILES_FAULT)
     yield "file: one that may not be read", answers_a_file_that_may_not_be_read, (path,)
     yield "file: an answer to a full device", answers_a_file_without_room, (path,)
+    yield "cluster: a script is played", replays_a_cluster, (path,)
+    yield "cluster: another name", serves_no_cluster, (path, UNPREFIXED, b"alph", b"no-cluster")
+    yield "cluster: an empty name", serves_no_cluster, (path, UNPREFIXED, b"", b"no-cluster")
+    yield "cluster: one with a prefix", serves_no_cluster, (path, CONFIG, b"alpha", b"no-cluster")
+    yield "cluster: of a refused file", serves_no_cluster, (path, b"", b"alpha", b"missing version")
+    yield "cluster: of a file that isn't there", finds_no_file_of_clusters, (path,)
     yield "pipe: each line is answered before the next", answers_before_the_next_line, (path,)
     yield "pipe: two lines and a half", answers_two_lines_and_a_half, (path,)
     yield "pipe: byte by byte", answers_bytes_that_come_one_by_one, (path,)

@@ -19,7 +19,9 @@ HELD = 209_715_200
 LONGEST_LINE = 268_435_456
 LONGEST_VERDICT = 8_388_608
 
-PRODUCE, API_VERSIONS = 0, 18
+PRODUCE, METADATA, FIND_COORDINATOR, API_VERSIONS = 0, 3, 10, 18
+# Where node 0 of the default plan is for the clients: localhost, port 19093.
+NODE_0 = bytes.fromhex("0009 6c6f63616c686f7374 00004a95")
 # Error 35, and one entry: ApiVersions in versions 0 to 2 (KIP-511).
 WHICH_API_VERSIONS = bytes.fromhex("0023 00000001 0012 0000 0002")
 
@@ -113,6 +115,36 @@ def narrowed(body, supported):
     return body[:2] + counted.to_bytes(4, "big", signed=True) + entries + body[behind:]
 
 
+def nodes_of(body, key, version):
+    """Where each node of a response to Metadata or FindCoordinator stands: the place, its number, and where its port ends."""
+
+    def behind_text(place):
+        return place + 2 + max(number(body[place : place + 2]), 0)
+
+    count, place = 0, 0
+    if key == METADATA:
+        place = 4 if version >= 3 else 0
+        count, place = number(body[place : place + 4]), place + 4
+    elif key == FIND_COORDINATOR:
+        count, place = 1, behind_text(6) if version >= 1 else 2
+    for _ in range(count):
+        behind = behind_text(place + 4) + 4
+        yield place, number(body[place : place + 4]), behind
+        place = behind_text(behind) if key == METADATA else behind
+
+
+def addressed(body, key, version):
+    """The response with the default plan's node 0 at the proxy's address. Or the first other node that isn't negative."""
+    parts, start = [], 0
+    for place, node, behind in nodes_of(body, key, version):
+        if node > 0:
+            return None, node
+        if node == 0:
+            parts += [body[start : place + 4], NODE_0]
+            start = behind
+    return b"".join(parts) + body[start:], None
+
+
 class Request:
     def __init__(self, frame):
         self.start = frame[0:4]  # key and version
@@ -123,7 +155,8 @@ class Request:
 
 
 class Connection:
-    """The rules of one connection, over the chain of the default plan: what a broker says of its versions is narrowed."""
+    """The rules of one connection, over the chain of the default plan: what a broker says of its versions is narrowed, and
+    its node 0 lives at the proxy's address."""
 
     def __init__(self):
         self.supported = served_versions()
@@ -212,7 +245,11 @@ class Connection:
         except BadBody:
             self.cut = request, f"broker-bad-body request={request} key={key} version={version}"
         else:
-            self.requests[request].body = narrowed(body, self.supported) if key == API_VERSIONS else body
+            body, stray = addressed(body, key, version)
+            if stray is not None:
+                self.cut = request, f"node-out-of-range request={request} node={stray}"
+            else:
+                self.requests[request].body = narrowed(body, self.supported) if key == API_VERSIONS else body
 
     def cut_behind(self, why):
         if not self.over and (not self.cut or len(self.requests) < self.cut[0]):

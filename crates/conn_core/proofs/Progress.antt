@@ -9,7 +9,7 @@ use Rattle.side_requests.specs.declared.ask.Ask.{Ask}
 use Rattle.filter_chain.specs.declared.outside.Outside as chains
 use Rattle.filter_chain.specs.declared.state.State.{State}
 use Rattle.filter_chain.specs.declared.state.State.TheVariants as state
-use Rattle.filter_chain.specs.Outcomes.{Needs}
+use Rattle.filter_chain.specs.Outcomes.{Needs, turns}
 use Rattle.filter_chain.specs.RunStates.{RunsFor, IsState}
 use Rattle.conn_rules.specs.Meaning.{Done}
 use Rattle.conn_rules.specs.State.{Outside}
@@ -19,7 +19,7 @@ use Rattle.serving.specs.declared.progress.Progress.TheVariants as progress
 use Rattle.conn_core.specs.declared.envelope.Envelope.{Envelope}
 use Rattle.conn_core.specs.declared.chain_run.ChainRun.{ChainRun}
 use Rattle.conn_core.specs.Requests.{request_of, is_silent, is_told_versions, versions_told}
-use Rattle.conn_core.specs.Chained.{taken_as, given_to, most_out, grown_past, sent_for, message_size, message_status, outcome_status, chain_outcome, chain_status, chain_meaning}
+use Rattle.conn_core.specs.Chained.{taken_as, given_to, most_out, grown_past, sent_for, message_size, message_status, outcome_status, chain_outcome, chain_status, chain_work, chain_meaning}
 use Rattle.conn_core.specs.Underway.{IsEnvelopeOf, IsUnderway, KeepsRun, IsToldAs, outcome_in}
 use Rattle.conn_core.proofs.Lasting.{given_later}
 
@@ -91,3 +91,21 @@ module _ {F P : Type 0} (turn : F → Turn) (stands : F → P → Contents → L
       let h = polled (request_of frame) given w.is_run in
       let same : given ++ came ∷ [] ≡ given_to (map turn filters) (request_of frame) (before ++ x ∷ []) = ap (λ y. given ++ y ∷ []) e ∙ given_once_more before x w.question w.waits in
       told_so (before ++ x ∷ []) w.not_told r.envelope st p w.envelope (subst (λ gs. IsState turn stands filters (request_of frame) gs st) same h) (told w.envelope)
+
+  -- ---- turns
+
+  -- the work of a request that its chain sees is the turns of its filters
+  pub work_is : (given : List Outside) → is_told_versions frame ≡ false → chain_work (map turn filters) frame given ≡ turns (map turn filters) (request_of frame) (given_to (map turn filters) (request_of frame) given)
+  work_is given told = ap (λ b. if b then 0 else turns (map turn filters) (request_of frame) (given_to (map turn filters) (request_of frame) given)) told
+
+  -- a run that goes on has the turns by which the request's work grows
+  pub work_grows : (r : ChainRun P) (before : List Outside) (x : Outside) (came : chains.Outside) (n m : ℕ) (w : IsUnderway turn stands filters r frame before)
+      → came ≡ taken_as (Needs w.question) x
+      → ((request : Contents) (given : List chains.Outside) → RunsFor turn stands filters request given r.run → m + turns (map turn filters) request given ≡ n + turns (map turn filters) request (given ++ came ∷ []))
+      → m + chain_work (map turn filters) frame before ≡ n + chain_work (map turn filters) frame (before ++ x ∷ [])
+  work_grows r before x came n m w e counted =
+      let given = given_to (map turn filters) (request_of frame) before in
+      let same : given ++ came ∷ [] ≡ given_to (map turn filters) (request_of frame) (before ++ x ∷ []) = ap (λ y. given ++ y ∷ []) e ∙ given_once_more before x w.question w.waits in
+      let h : m + turns (map turn filters) (request_of frame) given ≡ n + turns (map turn filters) (request_of frame) (given_to (map turn filters) (request_of frame) (before ++ x ∷ [])) =
+      subst (λ gs. m + turns (map turn filters) (request_of frame) given ≡ n + turns (map turn filters) (request_of frame) gs) same (counted (request_of frame) given w.is_run) in
+      ap (λ k. m + k) (work_is before w.not_told) ∙ h ∙ ap (λ k. n + k) (sym (work_is (before ++ x ∷ []) w.not_told))

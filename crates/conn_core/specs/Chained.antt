@@ -17,7 +17,7 @@ use Rattle.filter_chain.specs.declared.outside.Outside.TheVariants as came
 use Rattle.filter_chain.specs.declared.outside.Outside as chains
 use Rattle.filter_chain.specs.declared.state.ShutCause.{ShutCause}
 use Rattle.filter_chain.specs.declared.state.ShutCause.TheVariants as cause
-use Rattle.filter_chain.specs.Outcomes.{Outcome, Needs, Completed, Shuts, NeverEnds, run}
+use Rattle.filter_chain.specs.Outcomes.{Outcome, Needs, Completed, Shuts, NeverEnds, run, turns}
 use Rattle.conn_rules.specs.Meaning.{Meaning, ToBroker, Hold, Status, Waits, Done, Fails}
 use Rattle.conn_rules.specs.State.{Outside, Body, NoResponse, Verdict}
 use Rattle.conn_rules.specs.Room.{limited}
@@ -101,6 +101,10 @@ chain_outcome chain frame given = run chain (request_of frame) (given_to chain (
 abbrev pub chain_status : List Turn → List ℕ → List Outside → Status
 chain_status chain frame given = if is_told_versions frame then Done (versions_told frame) else outcome_status frame (chain_outcome chain frame given)
 
+-- How many turns its filters had, with all that it was given. Who is told the versions meets no filter.
+abbrev pub chain_work : List Turn → List ℕ → List Outside → ℕ
+chain_work chain frame given = if is_told_versions frame then 0 else turns chain (request_of frame) (given_to chain (request_of frame) given)
+
 abbrev pub chain_meaning : List Turn → Meaning
 chain_meaning chain =
     record {
@@ -108,6 +112,7 @@ chain_meaning chain =
       no_request = frame_cause;
       silent = is_silent;
       status = chain_status chain;
+      work = chain_work chain;
       unreadable = λ before body. answer_cause (request_key before) (request_version before) (answer_decoded before body);
     }
 

@@ -8,3 +8,4 @@ pub mod Lists
 pub mod Sweep
 pub mod Worked
 pub mod Brings
+pub mod Resting

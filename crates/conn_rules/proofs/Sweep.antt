@@ -312,6 +312,21 @@ joined_quiet M s r none = ap (λ rs. act_from M s.sends s.causes.cut 0 true rs) 
 acts_first : (M : Meaning) (s t : State) (act : Act) → next_act M s ≡ Some act → Settles M (acted (Some act) s) t → Settles M s t
 acts_first M s t act is h = record { acts = suc h.acts; after = ap (λ a. after_acts M h.acts (acted a s)) is ∙ h.after; rest = h.rest }
 
+-- and a connection settles to one state
+at_rest : (M : Meaning) (n : ℕ) (s : State) → next_act M s ≡ None → after_acts M n s ≡ s
+at_rest M zero s h = refl
+at_rest M (suc n) s h = ap (λ a. after_acts M n (acted a s)) h ∙ at_rest M n s h
+
+acts_both : (M : Meaning) (n m : ℕ) (s : State) → after_acts M (n + m) s ≡ after_acts M m (after_acts M n s)
+acts_both M zero m s = ap (λ k. after_acts M k s) (let e : zero + m ≡ m = omega arith in e)
+acts_both M (suc n) m s = ap (λ k. after_acts M k s) (let e : suc n + m ≡ suc (n + m) = omega arith in e) ∙ acts_both M n m (acted (next_act M s) s)
+
+settled_once : (M : Meaning) (s t u : State) → Settles M s t → Settles M s u → t ≡ u
+settled_once M s t u a b =
+    let there : after_acts M (a.acts + b.acts) s ≡ t = acts_both M a.acts b.acts s ∙ (ap (λ x. after_acts M b.acts x) a.after ∙ at_rest M b.acts t a.rest) in
+    let here : after_acts M (b.acts + a.acts) s ≡ u = acts_both M b.acts a.acts s ∙ (ap (λ x. after_acts M a.acts x) b.after ∙ at_rest M a.acts u b.rest) in
+    sym there ∙ (ap (λ n. after_acts M n s) (let e : a.acts + b.acts ≡ b.acts + a.acts = omega arith in e) ∙ here)
+
 pub sweeps : (M : Meaning) → SweepLaws M
 sweeps M =
     record {
@@ -329,4 +344,5 @@ sweeps M =
       joins_behind = λ s r none. joined_quiet M s r none;
       acts = acts_first M;
       rests = λ s none. record { acts = 0; after = refl; rest = none };
+      once = settled_once M;
     }

@@ -11,7 +11,8 @@ use Rattle.conn_rules.specs.declared.event.CompleteFault.{CompleteFault}
 use Rattle.conn_rules.specs.declared.event.CompleteFault.TheVariants as complete_fault
 use Rattle.conn_rules.specs.Meaning.{Meaning}
 use Rattle.conn_rules.specs.State.{State}
-use Rattle.conn_rules.specs.Steps.{StepOrNoMemory}
+use Rattle.conn_rules.specs.Steps.{Step, StepOrNoMemory}
+use Rattle.conn_rules.specs.Work.{TakesGrowth}
 use Rattle.conn_rules.specs.History.{Entry, LeadsTo}
 
 module _ {C : Type 0} (meaning : C → Meaning) (stands : C → State → Type 0) where
@@ -19,6 +20,11 @@ module _ {C : Type 0} (meaning : C → Meaning) (stands : C → State → Type 0
   -- value stands for. The meaning stays.
   abbrev pub Follows : C → Event → Reply → C → Type 0
   Follows old e r new = (meaning new ≡ meaning old) × ((s : State) → stands old s → (t : State) × StepOrNoMemory (meaning old) s e r t × stands new t)
+
+  -- Nothing is worked out anew: the steps that are counted at an event are those by which the work of all requests grows as
+  -- the machine goes on. A refusal counts none. Where memory is wanting, this says nothing.
+  abbrev pub CountsWork : C → Event → Reply → (before after : ℕ) → Type 0
+  CountsWork old e r before after = (s t : State) → stands old s → Step (meaning old) s e r t → TakesGrowth (meaning old) before after s t
 
   -- the same of many events, one after another
   abbrev pub Brings : C → List Entry → C → Type 0

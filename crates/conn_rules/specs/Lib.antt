@@ -5,6 +5,7 @@ pub mod Settling
 pub mod Sweep
 pub mod Steps
 pub mod History
+pub mod Work
 pub mod Connections
 pub mod Worked
 pub mod Room

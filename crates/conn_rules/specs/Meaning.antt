@@ -29,6 +29,8 @@ pub record Meaning : Type 0 where
   -- whether a request gets no response
   pub silent : (frame : List ℕ) → Bool
   pub status : (frame : List ℕ) (given : List Outside) → Status
+  -- how many steps a request takes in all, from its frame on, with what it was given so far
+  pub work : (frame : List ℕ) (given : List Outside) → ℕ
   -- why the body of a response can't be read, by what stands before the correlation id of its request
   pub unreadable : (before body : List ℕ) → Option (ℕ → End)
 

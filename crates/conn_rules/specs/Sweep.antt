@@ -49,6 +49,7 @@ pub record SweepLaws (M : Meaning) : Type 0 where
   -- did before. A request that joins stands behind all others.
   pub given_quietly : (s : State) (k : ℕ) (x : Outside) (r : Request) → slice_get s.requests k ≡ Some r → next_act M s ≡ None → act_at M (give k x s) k ≡ None → lets_later_go s.sends k (M.status r.frame (r.given ++ x ∷ [])) ≡ lets_later_go s.sends k (M.status r.frame r.given) → next_act M (give k x s) ≡ None
   pub joins_behind : (s : State) (r : Request) → next_act M s ≡ None → IsQuietBefore M (record s { requests = s.requests ++ r ∷ [] }) (length s.requests)
-  -- what settles behind an act settles before it
+  -- what settles behind an act settles before it, and there is one state to which a connection settles
   pub acts : (s t : State) (act : Act) → next_act M s ≡ Some act → Settles M (acted (Some act) s) t → Settles M s t
   pub rests : (s : State) → next_act M s ≡ None → Settles M s s
+  pub once : (s t u : State) → Settles M s t → Settles M s u → t ≡ u

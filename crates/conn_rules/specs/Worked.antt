@@ -1,6 +1,6 @@
 -- An exchange worked through by hand, event by event, with the state after each. The frames are those of a Heartbeat of
 -- version 0 and of an ApiVersions request of version 3.
-use Rattle.std.specs.Prelude.{◌==◌, ℕ, nat_lt, true, false, if◌then◌else◌, List, [], ◌∷◌, ◌++◌, take, drop, get_or, Option, None, Some, Ok}
+use Rattle.std.specs.Prelude.{◌+◌, ◌==◌, ℕ, nat_lt, true, false, if◌then◌else◌, List, [], ◌∷◌, ◌++◌, length, take, drop, get_or, Option, None, Some, Ok}
 use Rattle.framing.specs.Frames.{sized}
 use Rattle.framing.specs.CorrelationIds.{request_id}
 use Rattle.kp_edge.specs.declared.end.End.TheVariants as end
@@ -25,6 +25,7 @@ worked_meaning =
       no_request = λ frame. None;
       silent = λ frame. false;
       status = λ frame given. if get_or frame 1 0 == 18 then Done (sized (request_id frame ++ 0 ∷ 35 ∷ [])) else worked_answer frame given;
+      work = λ frame given. 1 + length given;
       unreadable = λ before body. None;
     }
 

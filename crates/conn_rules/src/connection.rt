@@ -2,7 +2,7 @@
 ghost use Rattle.std.specs.Prelude.{◌≡◌, ◌≤◌, length, None};
 ghost use Rattle.conn_rules.specs.Meaning.{Meaning};
 ghost use Rattle.conn_rules.specs.State.{State};
-ghost use Rattle.conn_rules.specs.Connections.{Follows, FrameComesBack, AnswerComesBack, VerdictComesBack};
+ghost use Rattle.conn_rules.specs.Connections.{Follows, CountsWork, FrameComesBack, AnswerComesBack, VerdictComesBack};
 
 use crate::event::{
     AnswerFault, CompleteFault, Emit, Event, Fault, Look, Reply, TakeFault, Ticket,
@@ -13,7 +13,8 @@ use kp_edge::{Blob, Steps};
 /// One proxied connection without its streams. Each call is one event of the machine: what it answers, and the
 /// state that the connection then stands for, are those that the rules give for the meaning of its requests.
 ///
-/// `take`, `answer` and `complete` count in `steps` what their requests do. The other calls take no memory.
+/// `take`, `answer` and `complete` count in `steps` the work of their requests, each part of it once. The other calls do no
+/// such work and take no memory.
 pub trait Connection: Drop {
     /// What its requests mean.
     ghost meaning: { Self → Meaning };
@@ -25,12 +26,14 @@ pub trait Connection: Drop {
     fn take<L>(&mut self, frame: Bytes, steps: &mut Steps<L>) -> Result<(), TakeFault>
         requires { 8 ≤ length frame }
         ensures follows { Follows meaning stands self.old (Event.Take frame) (Reply.Take result) self.new }
+        ensures counted { CountsWork meaning stands self.old (Event.Take frame) (Reply.Take result) steps.old steps.new }
         ensures back { FrameComesBack frame result };
 
     /// The broker's next frame, without its size. A frame that is refused comes back.
     fn answer<L>(&mut self, frame: Bytes, steps: &mut Steps<L>) -> Result<(), AnswerFault>
         requires { 4 ≤ length frame }
         ensures follows { Follows meaning stands self.old (Event.Answer frame) (Reply.Answer result) self.new }
+        ensures counted { CountsWork meaning stands self.old (Event.Answer frame) (Reply.Answer result) steps.old steps.new }
         ensures back { AnswerComesBack frame result };
 
     /// An authority's verdict on the hold that request `request` waits for with ask number `index`. A verdict that
@@ -43,6 +46,7 @@ pub trait Connection: Drop {
         steps: &mut Steps<L>,
     ) -> Result<(), CompleteFault>
         ensures follows { Follows meaning stands self.old (Event.Complete request index verdict) (Reply.Complete result) self.new }
+        ensures counted { CountsWork meaning stands self.old (Event.Complete request index verdict) (Reply.Complete result) steps.old steps.new }
         ensures back { VerdictComesBack verdict result };
 
     /// The client's stream ended with `rest` bytes of a frame.

@@ -4,6 +4,7 @@ ghost use Rattle.conn_rules.specs.Meaning.{Meaning, Lasting};
 ghost use Rattle.conn_rules.specs.State.{State};
 ghost use Rattle.conn_rules.specs.Worked.{worked_meaning, worked_exchange, told_ended};
 ghost use Rattle.conn_rules.specs.Sweep.{SweepLaws};
+ghost use Rattle.conn_rules.specs.Work.{WorkStays};
 ghost use Rattle.conn_rules.specs.History.{Entry, IsHistory, AreRequests, IsTold, IsToldIfEmit, IsInOrder, frames_taken, client_frames, AreFirst};
 
 /// The law of order: what a client was sent is the responses to the first of its requests, one after another,
@@ -32,6 +33,12 @@ pub fn end_stays_law()
 /// Settling is one sweep over the requests, from the oldest on.
 pub fn sweep_laws()
     ensures { (M : Meaning) → SweepLaws M }
+{}
+
+/// Requests are worked on where a frame or a verdict is accepted, and nowhere else: at each other entry of a history the
+/// work of all requests stays what it was.
+pub fn work_law()
+    ensures { (M : Meaning) → WorkStays M }
 {}
 
 /// A whole exchange goes as it was worked through by hand: a Heartbeat, an ApiVersions request that is done before it,

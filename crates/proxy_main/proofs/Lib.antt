@@ -13,3 +13,4 @@ pub mod Word
 pub mod Stepping
 pub mod FileAnswering
 pub mod OwnReplies
+pub mod Plans

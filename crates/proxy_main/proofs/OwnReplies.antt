@@ -1,14 +1,12 @@
 -- What a script shows the client is the own responses of its requests.
-use Rattle.std.proofs.Common.{◌≡◌, ◌∙◌, sym, subst, refl, ℕ, zero, suc, ◌+◌, ◌-◌, ◌<◌, ◌≤◌, Bool, true, false, if◌then◌else◌, List, [], ◌∷◌, ◌++◌, length, get_or, Ok, ◌⊎◌, inl, inr, ◌≢◌, codes, arith}
+use Rattle.std.proofs.Common.{◌≡◌, ◌∙◌, sym, subst, refl, ℕ, zero, suc, ◌+◌, ◌-◌, ◌<◌, ◌≤◌, Bool, true, false, if◌then◌else◌, List, [], ◌∷◌, ◌++◌, length, map, get_or, Ok, ◌⊎◌, inl, inr, ◌≢◌, codes, arith}
 use Rattle.std.specs.List.{All}
-use Rattle.std.proofs.lemmas.List.Elements.{All-nil, All-cons}
 use Rattle.hex.specs.Hex.{decode_of}
 use Rattle.hex.proofs.HexLemmas.{decode_of-ok}
 use Rattle.tree_spelling.specs.Laws.{AreBytes}
-use Rattle.filter_core.specs.Decision.{Forward, Turn}
 use Rattle.filter_core.specs.Laws.{IsLawful}
-use Rattle.filter_core.specs.Lawful.{forwards_once, ends_after_six, forwards_the_same, questions_are_answered, returns_an_answer}
-use Rattle.stock_filters.specs.Narrow.{narrow, narrowed_back, narrow_keeps}
+use Rattle.virtual_cluster.specs.declared.plan.ClusterPlan.{ClusterPlan}
+use Rattle.any_filter.specs.Chains.{cluster_chain}
 use Rattle.conn_rules.specs.Meaning.{Meaning}
 use Rattle.conn_rules.specs.History.{client_frames, broker_frames}
 use Rattle.session.specs.declared.peer.Peer.{Peer}
@@ -24,7 +22,7 @@ use Rattle.proxy_laws.specs.Awaited.{FramesAreBytes}
 use Rattle.proxy_laws.specs.OwnResponses.{AreOwnResponses, AreMessageSends}
 use Rattle.proxy_laws.proofs.Bytes.{frames_are_bytes}
 use Rattle.proxy_laws.proofs.Sent.{own_responses, message_sends}
-use Rattle.proxy_main.specs.DefaultPlan.{default_chain, most_in_flight, default_meaning}
+use Rattle.proxy_main.specs.DefaultPlan.{cluster_meaning}
 use Rattle.proxy_main.specs.Played.{opening_play, piece_of, is_end_of, stream_in}
 use Rattle.proxy_main.specs.Scripts.{IsLineText, AreLineTexts}
 use Rattle.proxy_main.specs.Replayed.{Answered}
@@ -82,21 +80,9 @@ module _ (M : Meaning) (lines : List (List ℕ)) (text : List ℕ) (a : Answered
         frames_bytes (stream_in peer.Broker a.script) a.history a.last.broker peer.Broker all.both.broker a.broker (stream_bytes lines a.script peer.Broker a.texts),
       )
 
-narrow_is_lawful : IsLawful narrow
-narrow_is_lawful =
-    record {
-      forwards_once = forwards_once Forward narrowed_back narrow_keeps;
-      ends_after_six = ends_after_six Forward narrowed_back narrow_keeps;
-      forwards_the_same = forwards_the_same Forward narrowed_back narrow_keeps;
-      questions_are_answered = questions_are_answered Forward narrowed_back narrow_keeps;
-      returns_an_answer = returns_an_answer Forward narrowed_back narrow_keeps;
-    }
+module _ (plan : ClusterPlan) (lawful : All IsLawful (cluster_chain plan)) (lines : List (List ℕ)) (text : List ℕ) (a : Answered (cluster_meaning plan) lines text) where
+  pub replay_responses : AreOwnResponses a.history
+  replay_responses = own_responses (cluster_chain plan) plan.in_flight lawful a.history a.last.state a.is_history (handed_bytes (cluster_meaning plan) lines text a)
 
-default_is_lawful : All IsLawful default_chain
-default_is_lawful = All-cons IsLawful narrow [] narrow_is_lawful (All-nil IsLawful)
-
-pub replay_responses : (lines : List (List ℕ)) (text : List ℕ) (a : Answered default_meaning lines text) → AreOwnResponses a.history
-replay_responses lines text a = own_responses default_chain most_in_flight default_is_lawful a.history a.last.state a.is_history (handed_bytes default_meaning lines text a)
-
-pub replay_sends : (lines : List (List ℕ)) (text : List ℕ) (a : Answered default_meaning lines text) → AreMessageSends default_chain a.history a.last.state
-replay_sends lines text a = message_sends default_chain most_in_flight default_is_lawful a.history a.last.state a.is_history (handed_bytes default_meaning lines text a)
+  pub replay_sends : AreMessageSends (cluster_chain plan) a.history a.last.state
+  replay_sends = message_sends (cluster_chain plan) plan.in_flight lawful a.history a.last.state a.is_history (handed_bytes (cluster_meaning plan) lines text a)

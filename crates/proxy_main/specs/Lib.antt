@@ -8,3 +8,4 @@ pub mod Written
 pub mod Stops
 pub mod FileAnswers
 pub mod DefaultPlan
+pub mod ClusterReplays

@@ -1,5 +1,5 @@
 -- What `replay` makes of a script: the text that it writes, by its status.
-use Rattle.std.specs.Prelude.{◌≡◌, ℕ, ◌+◌, ◌<◌, ◌≤◌, List, ◌∷◌, ◌++◌, flat_map, map, length, Option, ◌⊎◌}
+use Rattle.std.specs.Prelude.{◌≡◌, ℕ, ◌+◌, ◌<◌, ◌≤◌, List, [], ◌∷◌, ◌++◌, flat_map, map, length, Option, Some, ◌⊎◌}
 use Rattle.conn_rules.specs.History.{Entry, IsHistory, out, IsInOrder, AreFirst}
 use Rattle.conn_rules.specs.Meaning.{Meaning}
 use Rattle.framing.specs.Cuts.{Cuts}
@@ -108,6 +108,14 @@ IsStatusOfReplay status.NoMemory = Unit {0}
 IsStatusOfReplay status.FilesFault = ⊥
 IsStatusOfReplay status.BindFault = ⊥
 IsStatusOfReplay status.ThreadFault = ⊥
+
+-- A script on an input was replayed. Where the input tells what is to come and the output what it took, what was written
+-- has its cause in the script. At most the limit of a script and one piece of it were read, and all of it at status 0.
+pub record ReplaysInput (M : Meaning) (coming left before after : Option (List ℕ)) (s : Status) : Type 0 where
+  pub text : (script : List ℕ) → coming ≡ Some script → (written : List ℕ) × Appends before written after × Replays M script left written s
+  pub status_is : IsStatusOfReplay s
+  pub so_far : (script : List ℕ) → coming ≡ Some script → ReadSoFar piece_limit script left
+  pub all_read : s ≡ status.Done → (script : List ℕ) → coming ≡ Some script → left ≡ Some []
 
 -- the line on the usage was written, or a front of it
 abbrev pub RefusesWords : Status → Option (List ℕ) → Option (List ℕ) → Type 0

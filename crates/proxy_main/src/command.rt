@@ -1,14 +1,14 @@
 // The commands.
-ghost use Rattle.std.specs.Prelude.{◌≡◌, ◌≤◌, ◌↔◌, ℕ, List, [], ◌++◌, Some, map, string_bytes, IsTrue};
+ghost use Rattle.std.specs.Prelude.{◌≡◌, ◌≤◌, ◌↔◌, ℕ, List, map, string_bytes, IsTrue};
 ghost use Rattle.kp_edge.specs.Counts.{BothCounted, Counted};
 ghost use Rattle.config_answers.specs.declared.asked.Asked.{Asked};
 ghost use Rattle.proxy_main.specs.Words.{IsReplay, usage};
 ghost use Rattle.proxy_main.specs.DefaultPlan.{default_meaning};
-ghost use Rattle.proxy_main.specs.FileAnswers.{AnswersFile, IsFileCommand, IsNoFileCommand};
-ghost use Rattle.proxy_main.specs.Output.{Appends, AppendsFront};
-ghost use Rattle.proxy_main.specs.Scripts.{ReadSoFar, piece_limit};
-ghost use Rattle.proxy_main.specs.Replayed.{Replays, RefusesWords, IsStatusOfReplay};
+ghost use Rattle.proxy_main.specs.FileAnswers.{AnswersFile, IsFileCommand};
+ghost use Rattle.proxy_main.specs.ClusterReplays.{IsClusterReplay, IsNoClusterReplay, NamesNoFile, ReplaysCluster};
+ghost use Rattle.proxy_main.specs.Replayed.{ReplaysInput, RefusesWords};
 
+use crate::cluster_replay::{cluster_replay, replay_cluster};
 use crate::default_plan::replay_default;
 use crate::file_answer::{answer_file, file_command};
 use crate::output::write_all;
@@ -21,8 +21,9 @@ const USAGE: &[u8] =
     b"usage: kproxy replay [CONFIG CLUSTER] | check CONFIG | plan CONFIG | serve CONFIG | broker HOST PORT | load SEED N\n";
 
 /// Does what the words say, and ends with the status that says how. The word `replay` runs the script on `input`
-/// over a connection and writes an answer line for each line. What a script means is told in docs/SCRIPTS.md.
-/// `check` and `plan`, each before the name of a file, write what is told of a configuration in docs/CONFIG.md.
+/// over a connection and writes an answer line for each line. What a script means is told in docs/SCRIPTS.md. Before the
+/// names of a file and a cluster it runs the script over that cluster of the configuration, and else over the default
+/// plan. `check` and `plan`, each before the name of a file, write what is told of a configuration in docs/CONFIG.md.
 /// It waits for nothing but its input, its output and the read of that file.
 pub fn run_command<I: Source, O: Sink, F: Files, L>(
     alloc: Global,
@@ -32,23 +33,17 @@ pub fn run_command<I: Source, O: Sink, F: Files, L>(
     files: &mut F,
     _steps: &mut Steps<L>,
 ) -> Status
-    // The status and what is written have their cause in the script, where the input tells it. The output took
-    // that text, where it tells what it takes.
-    ensures replay { IsReplay (map string_bytes words.now) → (script : List ℕ) → I.coming input.old ≡ Some script
-        → (written : List ℕ) × Appends (O.taken out.old) written (O.taken out.new) × Replays default_meaning script (I.coming input.new) written result }
-    ensures statuses { IsReplay (map string_bytes words.now) → IsStatusOfReplay result }
-
-    // At most the limit of a script and one piece of it are read. At status 0 the whole script was.
-    ensures so_far { IsReplay (map string_bytes words.now) → (script : List ℕ) → I.coming input.old ≡ Some script → ReadSoFar piece_limit script (I.coming input.new) }
-    ensures read { IsReplay (map string_bytes words.now) → result ≡ Status.Done → (script : List ℕ) → I.coming input.old ≡ Some script → I.coming input.new ≡ Some [] }
+    // The script is replayed over the default plan, or over the plan of the file's cluster.
+    ensures replay { IsReplay (map string_bytes words.now) → ReplaysInput default_meaning (I.coming input.old) (I.coming input.new) (O.taken out.old) (O.taken out.new) result }
+    ensures cluster { (file cluster : List ℕ) → IsClusterReplay (map string_bytes words.now) file cluster → ReplaysCluster (F.content files.old file) cluster (I.coming input.old) (I.coming input.new) (O.taken out.old) (O.taken out.new) result }
 
     // `check` and `plan` answer the whole file, as far as the files tell what it holds.
     ensures file { (asked : Asked) (name : List ℕ) → IsFileCommand (map string_bytes words.now) asked name → AnswersFile asked (F.content files.old name) (O.taken out.old) (O.taken out.new) result }
 
-    // Other words are faulty. The input is read for `replay` alone, and a file for `check` and `plan`.
-    ensures words { ¬ IsReplay (map string_bytes words.now) → IsNoFileCommand (map string_bytes words.now) → RefusesWords result (O.taken out.old) (O.taken out.new) }
-    ensures unread { ¬ IsReplay (map string_bytes words.now) → input.new ≡ input.old }
-    ensures unopened { IsNoFileCommand (map string_bytes words.now) → files.new ≡ files.old }
+    // Other words are faulty. The input is read for `replay` alone, and a file where the words name one.
+    ensures words { ¬ IsReplay (map string_bytes words.now) → NamesNoFile (map string_bytes words.now) → RefusesWords result (O.taken out.old) (O.taken out.new) }
+    ensures unread { ¬ IsReplay (map string_bytes words.now) → IsNoClusterReplay (map string_bytes words.now) → input.new ≡ input.old }
+    ensures unopened { NamesNoFile (map string_bytes words.now) → files.new ≡ files.old }
 
     // A fault has its cause in this call: the input's, the output's and the files' count rose where the status
     // names their fault, and else stayed.
@@ -61,6 +56,8 @@ pub fn run_command<I: Source, O: Sink, F: Files, L>(
 {
     if is_replay(words) {
         replay_default(alloc, input, out)
+    } else if let Some(names) = cluster_replay(words) {
+        replay_cluster(alloc, &names, input, out, files)
     } else if let Some(command) = file_command(words) {
         answer_file(alloc, &command, out, files)
     } else {

@@ -44,7 +44,7 @@ fn asked_in(word: &str) -> Option<Asked>
     }
 }
 
-fn begins_with_a_dash(name: &[u8]) -> bool
+pub(crate) fn begins_with_a_dash(name: &[u8]) -> bool
     ensures { result ≡ begins_with_dash name.now }
 {
     match name.first() {
@@ -90,7 +90,7 @@ fn answer_to<F: Files>(
 }
 
 // Writes the text, and ends with this status unless a write fails.
-fn write_with<O: Sink>(status: Status, text: &[u8], out: &mut O) -> Status
+pub(crate) fn write_with<O: Sink>(status: Status, text: &[u8], out: &mut O) -> Status
     ensures written { WritesOut text.now status (O.taken out.old) (O.taken out.new) result }
     ensures faults { ¬ (status ≡ Status.OutputFault) → Counted (result ≡ Status.OutputFault) (O.faults out.old) (O.faults out.new) }
 {

@@ -7,6 +7,7 @@
 //! It reads no file and no stream by itself: `main` hands them in, and so does a test.
 #![tactic(auto)]
 
+mod cluster_replay;
 mod command;
 mod conclude;
 mod default_plan;
@@ -15,6 +16,7 @@ mod laws;
 mod lines;
 mod output;
 mod perform;
+mod plan_replay;
 mod replay;
 mod run;
 mod script;

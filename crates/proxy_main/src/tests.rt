@@ -1,3 +1,4 @@
+use self::by_addresses::ADDRESSES;
 use self::by_bodies::BODIES;
 use self::by_ends::{ANSWERS, BROKER_ENDS, FAULTS, HOLDS, ORDER, SHORTEST};
 use self::by_room::ROOM;
@@ -8,7 +9,9 @@ use kp_edge::{Blob, MemFiles, MemSink, MemSource, Steps};
 use std::alloc::Global;
 use std::test::*;
 
+mod by_addresses;
 mod by_bodies;
+mod by_clusters;
 mod by_ends;
 mod by_files;
 mod by_room;
@@ -203,6 +206,19 @@ fn ran(
     piece: u32,
     faults: &Faults,
 ) -> Result<(Status, String), Fail> {
+    let mut files = MemFiles::new(Vec::new(alloc), Vec::new(alloc));
+    ran_with(alloc, words, script, piece, faults, &mut files)
+}
+
+// The same with files.
+fn ran_with(
+    alloc: Global,
+    words: &[&str],
+    script: &str,
+    piece: u32,
+    faults: &Faults,
+    files: &mut MemFiles,
+) -> Result<(Status, String), Fail> {
     let words = words_of(alloc, words)?;
     let pieces = vec![in alloc; piece; script.len()]?;
     let bytes = Blob::copy(alloc, script.as_bytes())?;
@@ -213,14 +229,13 @@ fn ran(
         faults.room,
         Vec::from_slice(alloc, faults.writes)?,
     )?;
-    let mut files = MemFiles::new(Vec::new(alloc), Vec::new(alloc));
     let mut steps = Steps::<()>::new();
     let status = run_command(
         alloc,
         words.as_slice(),
         &mut input,
         &mut out,
-        &mut files,
+        files,
         &mut steps,
     );
     let text = std::str::from_utf8(out.bytes()).ok().ok_or("text")?;
@@ -319,6 +334,13 @@ fn faults_outside(rt: HostRuntime) -> Result<(), Fail> {
 #[test]
 fn answers_out_of_turn(rt: HostRuntime) -> Result<(), Fail> {
     let other = first_other(rt.alloc(), ANSWERS)?;
+    assert_eq!(rt; other.as_str(), "");
+    Ok(())
+}
+
+#[test]
+fn brokers_live_at_the_proxy(rt: HostRuntime) -> Result<(), Fail> {
+    let other = first_other(rt.alloc(), ADDRESSES)?;
     assert_eq!(rt; other.as_str(), "");
     Ok(())
 }
@@ -472,13 +494,17 @@ fn a_failed_write_leaves_a_front(rt: HostRuntime) -> Result<(), Fail> {
 fn other_words_are_told_the_usage(rt: HostRuntime) -> Result<(), Fail> {
     let usage =
         "usage: kproxy replay [CONFIG CLUSTER] | check CONFIG | plan CONFIG | serve CONFIG | broker HOST PORT | load SEED N\n";
-    let table: [&[&str]; 8] = [
+    let table: [&[&str]; 12] = [
         &[],
         &[""],
         &["Replay"],
         &["replay "],
         &["replay", "replay"],
-        &["replay", "config.ini", "0"],
+        &["replay", "config.ini"],
+        &["replay", "config.ini", "-0"],
+        &["replay", "-", "0"],
+        &["replay", "f", "0", "0"],
+        &["Replay", "f", "0"],
         &["check", "replay", "0"],
         &["play"],
     ];

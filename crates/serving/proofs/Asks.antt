@@ -1,31 +1,31 @@
 -- A request whose message is listed, and one that goes on with what it was given.
-use Rattle.std.proofs.Common.{◌≡◌, ◌≢◌, ◌∙◌, ap, refl, sym, subst, ℕ, zero, suc, ◌+◌, ◌≤◌, ◌<◌, ◌==◌, Bool, true, false, not, ◌&&◌, ◌||◌, cond, if◌then◌else◌, List, [], ◌∷◌, ◌++◌, length, drop, Option, Some, None, slice_get, slice_set, arith, length-set, length-append, ◌⊎◌, inl, inr}
+use Rattle.std.proofs.Common.{◌≡◌, ◌≢◌, ◌∙◌, ap, refl, sym, subst, ℕ, suc, ◌+◌, ◌≤◌, ◌<◌, ◌==◌, Bool, true, false, not, ◌&&◌, ◌||◌, cond, if◌then◌else◌, List, [], ◌∷◌, ◌++◌, length, Option, Some, None, slice_get, slice_set, arith, length-set, length-append}
 use Rattle.std.specs.Prelude.{MatchBool}
-use Rattle.std.specs.List.{list_any}
 use Rattle.std.proofs.lemmas.List.Folds.{list_any-append}
 use Rattle.conn_rules.specs.Causes.{below}
-use Rattle.conn_rules.specs.Meaning.{Meaning, ToBroker, Hold, Status, Waits, Done, Fails}
+use Rattle.conn_rules.specs.Meaning.{Meaning, ToBroker, Status, Waits}
 use Rattle.conn_rules.specs.Room.{limited}
-use Rattle.conn_rules.specs.Settling.{Act, CutAt, Lists, is_listed, act_of, acted, listed, next_act, Settles}
-use Rattle.conn_rules.specs.State.{Outside, NoResponse, Request, ListedSend, State, give, given_more, held, upstream_frame}
-use Rattle.conn_rules.specs.Sweep.{IsQuietBefore, free_before, act_in, act_at, SweepLaws}
+use Rattle.conn_rules.specs.Settling.{Act, Lists, is_listed, act_of, acted, listed, next_act, Settles}
+use Rattle.conn_rules.specs.State.{Outside, NoResponse, Request, ListedSend, State, give, given_more, upstream_frame}
+use Rattle.conn_rules.specs.Sweep.{IsQuietBefore, free_before, act_in, act_at}
+use Rattle.conn_rules.specs.Work.{TakesGrowth}
 use Rattle.conn_rules.proofs.Sweep.{sweeps}
 use Rattle.correlation.specs.Windows.{Window}
-use Rattle.correlation.specs.IsWindow.{IsWindow, owner_of, one_listed, WindowLaws}
+use Rattle.correlation.specs.IsWindow.{IsWindow, owner_of, one_listed}
 use Rattle.correlation.proofs.WindowLaws.{laws}
 use Rattle.serving.specs.declared.message.Message.{Message}
 use Rattle.serving.specs.declared.progress.Progress.{Progress}
 use Rattle.serving.specs.declared.progress.Progress.TheVariants as progress
 use Rattle.serving.specs.declared.slot.Slot.{Slot}
-use Rattle.serving.specs.declared.slot.Stage.{Stage}
 use Rattle.serving.specs.declared.slot.Stage.TheVariants as stage
-use Rattle.serving.specs.Services.{awaits_answer_to, IsProgress}
-use Rattle.serving.specs.Slots.{stage_of, awaits_response, awaits_verdict, lists_at, may_list, has_main, is_picked, pending, one_if, IsStage, GoesOn, Keeps}
-use Rattle.serving.specs.Listing.{send_of, window_with, SameFor, OnlyAt, ListsSlot, IsSweptTo, SettlesOn, GoesTo}
+use Rattle.serving.specs.Services.{awaits_answer_to, IsProgress, CountsOn}
+use Rattle.serving.specs.Slots.{stage_of, awaits_response, awaits_verdict, lists_at, has_main, is_picked, pending, one_if, IsStage, GoesOn, Keeps}
+use Rattle.serving.specs.Listing.{send_of, SameFor, OnlyAt, ListsSlot, CountsNext, IsSweptTo, SettlesOn, GoesTo}
 use Rattle.std.proofs.lemmas.Option.{slice_get_within}
 use Rattle.std.proofs.lemmas.Bool.{ne_eqb}
-use Rattle.serving.proofs.Places.{eqb_same, eqb_other, eqb_back, or_false, set_here, set_other, size_given, is_there}
-use Rattle.serving.proofs.Same.{only_refl, free_same}
+use Rattle.serving.proofs.Places.{eqb_same, eqb_other, eqb_back, or_false, set_here, set_other, size_given}
+use Rattle.serving.proofs.Same.{free_same}
+use Rattle.serving.proofs.Working.{grows_none, grows_given}
 use Rattle.serving.proofs.Owed.{owed, pending_is, owed_listed}
 
 -- what is listed behind the others
@@ -127,11 +127,11 @@ pub low_act : (low : Bool) (act : Option Act) → low ≡ true → (if low then 
 low_act true act h = refl
 low_act false act h = absurd (let never : false ≡ true = h in cc)
 
-module _ {R : Type 0} (M : Meaning) (runs : R → List ℕ → List Outside → Type 0) (limit k : ℕ) (free : Bool) (old new : Slot R) (w v : Window) where
+module _ {R : Type 0} (M : Meaning) (runs : R → List ℕ → List Outside → Type 0) (limit k : ℕ) (free : Bool) (old new : Slot R) (w v : Window) (n n' : ℕ) where
   abbrev N : Meaning
   N = limited limit M
 
-  module _ (s : State) (low : below s.causes.cut k ≡ true) (h : IsSweptTo N runs k free old w s) (step : ListsSlot M runs k free old w new v) where
+  module _ (s : State) (low : below s.causes.cut k ≡ true) (h : IsSweptTo N runs k free old w s) (step : ListsSlot M runs k free old w new v) (counted : CountsNext M runs true old n n') where
     abbrev r : Request
     r = h.kept.request
 
@@ -192,18 +192,18 @@ module _ {R : Type 0} (M : Meaning) (runs : R → List ℕ → List Outside → 
     listed_now i le = listed_behind s.sends d k i ∙ (ap (λ b. b || ((k == k) && (old.given == i))) (unlisted i le) ∙ (ap (λ b. b && (old.given == i)) (eqb_same k) ∙ eqb_back i old.given))
 
     -- the state that is reached, by what its one request is now
-    advance_to : (t : State) → acted (Some (Lists d)) s ≡ t → OnlyAt k s t → t.causes ≡ s.causes → Keeps N runs t k new → IsWindow t v → (t : State) × GoesTo N k s t × (t.causes ≡ s.causes) × IsSweptTo N runs k free new v t
-    advance_to t is only causes kept window =
+    advance_to : (t : State) → acted (Some (Lists d)) s ≡ t → OnlyAt k s t → t.causes ≡ s.causes → Keeps N runs t k new → IsWindow t v → TakesGrowth N n n' s t → (t : State) × GoesTo N k s t × (t.causes ≡ s.causes) × IsSweptTo N runs k free new v t × TakesGrowth N n n' s t
+    advance_to t is only causes kept window grows =
         let there : k < length s.requests = slice_get_within s.requests k r h.kept.there in
         let next : next_act N s ≡ Some (Lists d) = (sweeps N).next s k (Lists d) h.quiet act in
         let settles : SettlesOn N s t = λ u done. (sweeps N).acts s u (Lists d) next (subst (λ x. Settles N x u) (sym is) done) in
         let quiet : IsQuietBefore N t k = subst (λ x. IsQuietBefore N x k) is ((sweeps N).stays s k (Lists d) h.quiet act) in
         let same : free_before N t k ≡ free_before N s k = free_same N s t k (omega (arith, there)) (λ j lt. only.others j (λ e. absurd (omega (arith, lt, e)))) in
-        (t, record { settles = settles; only = only }, causes, record { quiet = quiet; free_is = h.free_is ∙ sym same; kept = kept; window = window })
+        (t, record { settles = settles; only = only }, causes, record { quiet = quiet; free_is = h.free_is ∙ sym same; kept = kept; window = window }, grows)
 
     -- It waits for its response now.
-    advance_waiting : m.responds ≡ true → new ≡ record old { main_listed = old.main_listed || m.main; stage = stage.Listed step.run } → (t : State) × GoesTo N k s t × (t.causes ≡ s.causes) × IsSweptTo N runs k free new v t
-    advance_waiting responds is =
+    advance_waiting : m.responds ≡ true → new ≡ record old { main_listed = old.main_listed || m.main; stage = stage.Listed step.run } → n' ≡ n → (t : State) × GoesTo N k s t × (t.causes ≡ s.causes) × IsSweptTo N runs k free new v t × TakesGrowth N n n' s t
+    advance_waiting responds is none =
         let goes : acted (Some (Lists d)) s ≡ one_listed d s = ap (λ b. if b then one_listed d s else give d.request NoResponse (one_listed d s)) responds in
         let only : OnlyAt k s (one_listed d s) = record { others = same_listed; count = refl; passed = refl; held_is = refl; halt = refl; over = refl; behind = λ n le x. x } in
         let status : N.status r.frame r.given ≡ Waits (ToBroker m.before m.behind m.main true) = asked.0 ∙ ap (λ b. Waits (ToBroker m.before m.behind m.main b)) responds in
@@ -219,11 +219,11 @@ module _ {R : Type 0} (M : Meaning) (runs : R → List ℕ → List Outside → 
           picked = λ i le. unpicked i le;
           pending = λ x. omega (arith, owed_now k, unowed, one_owed (not m.responds) (k == k) (not_is m.responds responds) (eqb_same k));
         } in
-        advance_to (one_listed d s) goes only refl (subst (λ slot. Keeps N runs (one_listed d s) k slot) (sym is) kept) window_listed
+        advance_to (one_listed d s) goes only refl (subst (λ slot. Keeps N runs (one_listed d s) k slot) (sym is) kept) window_listed (grows_none N n n' s (one_listed d s) none refl)
 
     -- It goes on without a response at once.
-    advance_silent : m.responds ≡ false → GoesOn M runs step.run NoResponse (record old { main_listed = old.main_listed || m.main }) new → (t : State) × GoesTo N k s t × (t.causes ≡ s.causes) × IsSweptTo N runs k free new v t
-    advance_silent silent on =
+    advance_silent : m.responds ≡ false → GoesOn M runs step.run NoResponse (record old { main_listed = old.main_listed || m.main }) new → CountsOn M runs step.run NoResponse n n' → (t : State) × GoesTo N k s t × (t.causes ≡ s.causes) × IsSweptTo N runs k free new v t × TakesGrowth N n n' s t
+    advance_silent silent on counts =
         let t : State = given_at k r NoResponse (one_listed d s) in
         let goes : acted (Some (Lists d)) s ≡ t = ap (λ b. if b then one_listed d s else give d.request NoResponse (one_listed d s)) silent ∙ give_is k r NoResponse (one_listed d s) h.kept.there in
         let others : (j : ℕ) → j ≢ k → SameFor j s t = λ j ne. record {
@@ -241,11 +241,11 @@ module _ {R : Type 0} (M : Meaning) (runs : R → List ℕ → List Outside → 
         (λ i le. listed_now i (omega (arith, le)) ∙ ne_eqb i old.given (λ e. omega (arith, le, e)))
         (λ i le. unpicked i (omega (arith, le)))
         (λ x. omega (arith, owed_now k, unowed, silent_owed (not m.responds) (k == k) (not_is_not m.responds silent))) in
-        advance_to t goes only refl kept (laws.stays (one_listed d s) t v (refl, refl, refl) window_listed)
+        advance_to t goes only refl kept (laws.stays (one_listed d s) t v (refl, refl, refl) window_listed) (grows_given N n n' s t k r NoResponse h.kept.there refl (counts r.frame r.given asked.1))
 
-    advance_by : (responds : Bool) → m.responds ≡ responds → MatchBool responds (new ≡ record old { main_listed = old.main_listed || m.main; stage = stage.Listed step.run }) (GoesOn M runs step.run NoResponse (record old { main_listed = old.main_listed || m.main }) new) → (t : State) × GoesTo N k s t × (t.causes ≡ s.causes) × IsSweptTo N runs k free new v t
-    advance_by true is goes = advance_waiting is goes
-    advance_by false is goes = advance_silent is goes
+    advance_by : (responds : Bool) → m.responds ≡ responds → MatchBool responds (new ≡ record old { main_listed = old.main_listed || m.main; stage = stage.Listed step.run }) (GoesOn M runs step.run NoResponse (record old { main_listed = old.main_listed || m.main }) new) → MatchBool responds (n' ≡ n) (CountsOn M runs step.run NoResponse n n') → (t : State) × GoesTo N k s t × (t.causes ≡ s.causes) × IsSweptTo N runs k free new v t × TakesGrowth N n n' s t
+    advance_by true is goes counts = advance_waiting is goes counts
+    advance_by false is goes counts = advance_silent is goes counts
 
-    pub advance : (t : State) × GoesTo N k s t × (t.causes ≡ s.causes) × IsSweptTo N runs k free new v t
-    advance = advance_by m.responds refl step.goes
+    pub advance : (t : State) × GoesTo N k s t × (t.causes ≡ s.causes) × IsSweptTo N runs k free new v t × TakesGrowth N n n' s t
+    advance = advance_by m.responds refl step.goes (counted m step.run step.was)

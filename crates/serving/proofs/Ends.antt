@@ -17,7 +17,8 @@ use Rattle.serving.specs.declared.flight.Flight.{Flight}
 use Rattle.serving.specs.Flights.{hold_at}
 use Rattle.serving.specs.Listing.{IsCutBehind, Carries}
 use Rattle.serving.specs.Stands.{Stands, flight_faulted}
-use Rattle.serving.proofs.Same.{low_before_cut, behind_cut}
+use Rattle.conn_rules.proofs.Resting.{low_before_cut}
+use Rattle.serving.proofs.Same.{behind_cut}
 use Rattle.serving.proofs.Notes.{steps, stands_causes, stands_halted, stands_dead, stands_cut}
 use Rattle.serving.proofs.Holds.{hold_there, not_passed}
 

@@ -1,23 +1,19 @@
 -- A request in flight is given what it waits for.
-use Rattle.std.proofs.Common.{◌≡◌, ◌≢◌, ◌∙◌, ap, refl, sym, subst, ℕ, zero, suc, ◌+◌, ◌-◌, ◌≤◌, ◌<◌, ◌^◌, ◌==◌, Bool, true, false, ◌&&◌, is_some, if◌then◌else◌, List, [], ◌∷◌, ◌++◌, length, drop, Option, Some, None, slice_get, slice_set, arith, length-set, ◌⊎◌, inl, inr}
+use Rattle.std.proofs.Common.{◌≡◌, ◌≢◌, ◌∙◌, ap, refl, sym, subst, ℕ, suc, ◌+◌, ◌-◌, ◌≤◌, ◌<◌, ◌==◌, Bool, true, false, ◌&&◌, List, [], ◌∷◌, ◌++◌, length, Some, slice_get, slice_set, arith, length-set, inl, inr}
 use Rattle.std.proofs.lemmas.Bool.{ne_eqb}
 use Rattle.std.proofs.lemmas.Option.{slice_get_within}
 use Rattle.conn_rules.specs.Causes.{below}
 use Rattle.conn_rules.specs.Meaning.{Meaning}
 use Rattle.conn_rules.specs.Room.{limited}
-use Rattle.conn_rules.specs.Settling.{Settles}
-use Rattle.conn_rules.specs.State.{Outside, Request, State, give, held, in_flight}
-use Rattle.correlation.specs.Windows.{Window}
+use Rattle.conn_rules.specs.State.{Outside, Request, State, give}
 use Rattle.correlation.specs.WindowOf.{window_of}
-use Rattle.correlation.specs.IsWindow.{IsWindow, WindowLaws}
+use Rattle.correlation.specs.IsWindow.{IsWindow}
 use Rattle.correlation.proofs.WindowLaws.{laws}
 use Rattle.serving.specs.declared.flight.Flight.{Flight}
-use Rattle.serving.specs.declared.slot.Slot.{Slot}
 use Rattle.serving.specs.declared.slot.Stage.{Stage}
 use Rattle.serving.specs.declared.slot.Stage.TheVariants as stage
-use Rattle.serving.specs.Flights.{first_of, OnlySlots}
-use Rattle.serving.specs.Slots.{awaits_response, awaits_verdict, waiting_run, pending, one_if, IsStage, Keeps, IsPassed, IsUntouched, is_picked}
-use Rattle.conn_rules.specs.Settling.{is_listed}
+use Rattle.serving.specs.Flights.{first_of}
+use Rattle.serving.specs.Slots.{awaits_response, awaits_verdict, waiting_run, pending, IsStage, Keeps}
 use Rattle.serving.specs.Listing.{SameFor, SameOutside, SameCounts, Carries, IsSettled, GivesAt}
 use Rattle.serving.specs.Stands.{Stands}
 use Rattle.serving.proofs.Places.{set_here, set_other, size_given}
@@ -27,7 +23,7 @@ use Rattle.serving.proofs.Sweeping.{at_or_not}
 
 -- What the code runs with and the machine's other limit are one.
 module _ {R : Type 0} (M : Meaning) (runs : R → List ℕ → List Outside → Type 0) where
-  run_stands : (frame : List ℕ) (given : List Outside) (at : Stage R) (run : R) → IsStage M runs frame given at → waiting_run at ≡ Some run → runs run frame given
+  pub run_stands : (frame : List ℕ) (given : List Outside) (at : Stage R) (run : R) → IsStage M runs frame given at → waiting_run at ≡ Some run → runs run frame given
   run_stands frame given (stage.Unlisted m x) run h is = cc
   run_stands frame given (stage.Listed x) run h is = let e : x ≡ run = cc in subst (λ y. runs y frame given) e h.4
   run_stands frame given (stage.Held key x) run h is = let e : x ≡ run = cc in subst (λ y. runs y frame given) e h.1

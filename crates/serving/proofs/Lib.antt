@@ -1,4 +1,5 @@
 pub mod Places
+pub mod Working
 pub mod Same
 pub mod Owed
 pub mod Asks

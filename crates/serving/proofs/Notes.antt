@@ -1,56 +1,35 @@
 -- What becomes of a connection whose causes change, and nothing else.
-use Rattle.std.proofs.Common.{◌≡◌, ◌≢◌, ◌∙◌, ap, refl, sym, subst, ℕ, zero, suc, ◌+◌, ◌≤◌, ◌<◌, Bool, true, false, ◌&&◌, ◌||◌, is_some, if◌then◌else◌, List, [], ◌∷◌, length, Option, Some, None, slice_get, arith, ◌⊎◌, inl, inr}
+use Rattle.std.proofs.Common.{◌≡◌, ◌∙◌, ap, refl, sym, subst, ℕ, suc, ◌+◌, ◌≤◌, Bool, true, false, ◌&&◌, if◌then◌else◌, List, [], ◌∷◌, length, Option, Some, None, slice_get, arith, inl, inr}
 use Rattle.kp_edge.specs.declared.end.End.{End}
 use Rattle.kp_edge.specs.declared.end.End.TheVariants as end
 use Rattle.conn_rules.specs.declared.causes.Causes.{Causes}
 use Rattle.conn_rules.specs.declared.event.Event.{Event}
 use Rattle.conn_rules.specs.declared.event.Reply.{Reply}
-use Rattle.conn_rules.specs.Causes.{first_cause, below, with_cut, with_death, with_halt, with_told, client_ended, after_client_end}
+use Rattle.conn_rules.specs.Causes.{first_cause, below, with_cut, with_death, with_halt, with_told}
 use Rattle.conn_rules.specs.Meaning.{Meaning}
-use Rattle.conn_rules.specs.Settling.{Act, or_else, act_of, act_from, next_act, lets_later_go, Settles}
+use Rattle.conn_rules.specs.Settling.{next_act}
 use Rattle.conn_rules.specs.State.{Outside, Request, ListedSend, State, halted}
 use Rattle.conn_rules.specs.Steps.{answer_to, memory_answer, TakesMemory, StepOrNoMemory}
-use Rattle.conn_rules.specs.Sweep.{SweepLaws}
 use Rattle.conn_rules.proofs.Sweep.{sweeps}
-use Rattle.correlation.specs.IsWindow.{IsWindow, WindowLaws}
+use Rattle.conn_rules.proofs.Resting.{rest_from, low_before_cut}
+use Rattle.correlation.specs.IsWindow.{IsWindow}
 use Rattle.serving.specs.Flights.{first_of}
 use Rattle.serving.specs.Slots.{Keeps}
 use Rattle.correlation.proofs.WindowLaws.{laws}
 use Rattle.correlation.specs.WindowOf.{window_of}
 use Rattle.serving.specs.declared.flight.Flight.{Flight}
-use Rattle.serving.specs.Listing.{SameFor, IsCutBehind, SameOutside, Carries}
+use Rattle.serving.specs.Listing.{SameFor, IsCutBehind, Carries}
 use Rattle.serving.specs.Stands.{Stands}
 use Rattle.serving.proofs.Freed.{uncut}
-use Rattle.serving.proofs.Same.{keeps_same, passed_same, untouched_same, low_before_cut, behind_cut}
+use Rattle.serving.proofs.Same.{keeps_same, passed_same, untouched_same, behind_cut}
 
--- where nothing was done before a cut, nothing is done before a lesser one
-none_first : (a b : Option Act) → or_else a b ≡ None → a ≡ None
-none_first None b h = refl
-none_first (Some x) b h = cc
-
-none_later : (a b : Option Act) → or_else a b ≡ None → b ≡ None
-none_later None b h = h
-none_later (Some x) b h = cc
-
-module _ (M : Meaning) (sends : List ListedSend) (cut cut' : Option (ℕ × End)) (lower : (j : ℕ) → below cut' j ≡ true → below cut j ≡ true) where
-  rest_if : (k : ℕ) (a b c : Option Act) (low low' : Bool) → below cut k ≡ low → below cut' k ≡ low' → (if low then or_else a b else None) ≡ None → (b ≡ None → c ≡ None) → (if low' then or_else a c else None) ≡ None
-  rest_if k a b c low false is is' h later = refl
-  rest_if k a b c true true is is' h later = rw (none_first a b h) (later (none_later a b h))
-  rest_if k a b c false true is is' h later = absurd (let never : true ≡ false = sym (lower k is') ∙ is in cc)
-
-  rest_from : (k : ℕ) (free : Bool) (rs : List Request) → act_from M sends cut k free rs ≡ None → act_from M sends cut' k free rs ≡ None
-  rest_from k free [] h = refl
-  rest_from k free (r ∷ rs) h = rest_if k _ _ _ (below cut k) (below cut' k) refl refl h (rest_from (suc k) (free && lets_later_go sends k (M.status r.frame r.given)) rs)
-
+-- where nothing is to be done, nothing is at a lesser cut
 pub rest_lower : (M : Meaning) (s : State) (c : Causes) → ((j : ℕ) → below c.cut j ≡ true → below s.causes.cut j ≡ true) → next_act M s ≡ None → next_act M (record s { causes = c }) ≡ None
 rest_lower M s c lower h = rest_from M s.sends s.causes.cut c.cut lower 0 true s.requests h
 
 -- The machine goes on to a state where nothing is left to do, or memory is wanting.
 pub steps : (M : Meaning) (s t : State) (e : Event) (r : Reply) → answer_to M s e ≡ (r, t) → next_act M t ≡ None → StepOrNoMemory M s e r t
 steps M s t e r is rest = inl (record { reply = ap (λ x. x.0) (sym is); settles = rw is ((sweeps M).rests t rest) })
-
-pub steps_settling : (M : Meaning) (s t u : State) (e : Event) (r : Reply) → answer_to M s e ≡ (r, t) → Settles M t u → StepOrNoMemory M s e r u
-steps_settling M s t u e r is settles = inl (record { reply = ap (λ x. x.0) (sym is); settles = rw is settles })
 
 pub gives_up : (M : Meaning) (s t : State) (e : Event) (taken r : Reply) → TakesMemory s e → answer_to M s e ≡ (taken, t) → memory_answer taken ≡ Some r → StepOrNoMemory M s e r (halted end.NoMemory s)
 gives_up M s t e taken r takes is refused = inr (record { takes = takes; reply = rw is refused; halts = refl })

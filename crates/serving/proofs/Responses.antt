@@ -3,7 +3,7 @@ use Rattle.std.specs.Prelude.{MatchBool}
 use Rattle.serving.proofs.Freed.{cut_stands}
 use Rattle.serving.proofs.Resting.{at_limit, rest_given, free_rested, settled_given}
 use Rattle.serving.proofs.Asks.{give_is}
-use Rattle.std.proofs.Common.{◌≡◌, ◌≢◌, ◌∙◌, ap, refl, sym, subst, ℕ, zero, suc, ◌+◌, ◌-◌, ◌≤◌, ◌<◌, ◌^◌, ◌==◌, nat_lt, Bool, true, false, not, cond, ◌&&◌, ◌||◌, is_some, if◌then◌else◌, List, [], ◌∷◌, ◌++◌, length, drop, Option, Some, None, Result, Ok, Err, ℤ, pos, slice_get, arith, ◌⊎◌, inl, inr}
+use Rattle.std.proofs.Common.{◌≡◌, ◌≢◌, ◌∙◌, ap, refl, sym, subst, ℕ, suc, ◌+◌, ◌-◌, ◌≤◌, ◌==◌, nat_lt, Bool, true, false, not, cond, ◌&&◌, ◌||◌, is_some, if◌then◌else◌, List, [], ◌∷◌, ◌++◌, length, drop, Option, Some, None, Ok, Err, ℤ, pos, slice_get, arith, ◌⊎◌, inl, inr}
 use Rattle.std.specs.Ordering.{int_eq}
 use Rattle.std.proofs.lemmas.Bool.{ltb-true, ltb-false}
 use Rattle.std.proofs.lemmas.Bool.Decides.{Decides-int_eq}
@@ -14,18 +14,19 @@ use Rattle.conn_rules.specs.declared.event.Event.TheVariants as event
 use Rattle.conn_rules.specs.declared.event.Reply.TheVariants as reply
 use Rattle.conn_rules.specs.declared.event.AnswerFault.TheVariants as answer_fault
 use Rattle.conn_rules.specs.declared.event.CompleteFault.TheVariants as complete_fault
-use Rattle.conn_rules.specs.Causes.{below, with_cut, with_death, with_halt, are_dead, are_still}
+use Rattle.conn_rules.specs.Causes.{below, with_cut, with_halt, are_dead, are_still}
 use Rattle.conn_rules.specs.Meaning.{Meaning}
 use Rattle.conn_rules.specs.Room.{limited}
-use Rattle.conn_rules.specs.State.{Outside, Body, Verdict, Request, ListedSend, State, cut_at, dead, halted, give, due_send, upstream_id, held, in_flight}
-use Rattle.conn_rules.specs.Steps.{attributed, matched, read_body, answer_step, answer_to, complete_step, open_hold, is_hold, TakesMemory, StepOrNoMemory}
+use Rattle.conn_rules.specs.Work.{TakesGrowth}
+use Rattle.conn_rules.specs.State.{Outside, Body, Verdict, ListedSend, State, cut_at, dead, halted, give, due_send, upstream_id}
+use Rattle.conn_rules.specs.Steps.{attributed, matched, read_body, answer_to, open_hold, is_hold, TakesMemory, StepOrNoMemory}
 use Rattle.correlation.specs.declared.owner.Owner.{Owner}
 use Rattle.correlation.specs.declared.owner.Numbered.{Numbered}
 use Rattle.correlation.specs.declared.owner.AnswerRefusal.{AnswerRefusal}
 use Rattle.correlation.specs.declared.owner.AnswerRefusal.TheVariants.{Unasked, Mismatch}
 use Rattle.correlation.specs.Windows.{Window, due_owner, owner_of_frame, with_answered}
 use Rattle.correlation.specs.WindowOf.{window_of}
-use Rattle.correlation.specs.IsWindow.{IsWindow, WindowLaws, owner_of, numbered, one_answered}
+use Rattle.correlation.specs.IsWindow.{IsWindow, owner_of, numbered}
 use Rattle.correlation.proofs.WindowLaws.{laws}
 use Rattle.serving.specs.declared.cause.Cause.{Cause}
 use Rattle.serving.specs.declared.flight.Flight.{Flight}
@@ -38,13 +39,15 @@ use Rattle.serving.specs.Causes.{why_of}
 use Rattle.serving.specs.Services.{cause_function}
 use Rattle.serving.specs.Flights.{first_of, hold_at, is_number, slot_hold}
 use Rattle.serving.specs.Slots.{awaits_response, has_hold, one_if, pending, Keeps, IsPassed, rests_in}
-use Rattle.serving.specs.Listing.{SameFor, SameOutside, SameCounts, Carries, IsSettled, GivesAt, FlightSettles}
+use Rattle.serving.specs.Listing.{SameFor, SameOutside, SameCounts, Carries, GivesAt, CountsAt, FlightSettles}
 use Rattle.serving.specs.Stands.{Stands, FlightGives, GivesBodyBy, FlightGivesBodyBy, FlightGivesBody, cut_flight, dead_flight, refusal_end}
 use Rattle.serving.proofs.Places.{eqb_same, eqb_other, set_here}
-use Rattle.serving.proofs.Same.{keeps_same, passed_same, untouched_same, low_before_cut, not_low_at_cut, behind_cut}
+use Rattle.conn_rules.proofs.Resting.{low_before_cut}
+use Rattle.serving.proofs.Same.{not_low_at_cut, behind_cut}
 use Rattle.serving.proofs.Owed.{owed, pending_is, owed_answered}
-use Rattle.serving.proofs.Notes.{carries_same, rest_lower, steps, steps_settling, gives_up, stands_dead}
-use Rattle.serving.proofs.Giving.{carries_given, counts_given, stands_settled}
+use Rattle.serving.proofs.Notes.{carries_same, rest_lower, steps, gives_up, stands_dead}
+use Rattle.serving.proofs.Working.{Reaches, reaches_rest, grows_given, grows_trans}
+use Rattle.serving.proofs.Giving.{run_stands, carries_given, counts_given, stands_settled}
 use Rattle.serving.proofs.Takes.{none_of, stands_wanting}
 use Rattle.serving.proofs.Sweeping.{outside_trans}
 
@@ -116,6 +119,10 @@ module _ {R : Type 0} (M : Meaning) (runs : R → List ℕ → List Outside → 
   abbrev pub Leads : Rattle.conn_rules.specs.declared.event.Event.Event → Rattle.conn_rules.specs.declared.event.Reply.Reply → Flight R → Type 0
   Leads e r new = (t : State) × StepOrNoMemory N s e r t × Stands N runs new t
 
+  -- the same, with the steps that are counted between
+  abbrev pub LeadsBy : Rattle.conn_rules.specs.declared.event.Event.Event → Rattle.conn_rules.specs.declared.event.Reply.Reply → Flight R → (before after : ℕ) → Type 0
+  LeadsBy e r new n m = (t : State) × Reaches N s e r n m t × Stands N runs new t
+
   module _ (h : Stands N runs f s) (frame : List ℕ) (alive : are_dead f.causes ≡ false) where
     abbrev e : Rattle.conn_rules.specs.declared.event.Event.Event
     e = event.Answer frame
@@ -148,16 +155,16 @@ module _ {R : Type 0} (M : Meaning) (runs : R → List ℕ → List Outside → 
     })
 
     -- no send waits, or another one is due
-    answer_unasked : (g : Flight R) (id found : ℤ) → g ≡ record f { sends = g.sends } → window_of g.sends ≡ with_answered (owner_of_frame id (due_owner (window_of f.sends))) (window_of f.sends) → id ≡ response_id frame → owner_of_frame id (due_owner (window_of f.sends)) ≡ Err (Unasked found) → Leads e ok (dead_flight (end.Unasked found) g)
-    answer_unasked g id found is window id_is says =
+    answer_unasked : (g : Flight R) (id found : ℤ) → g ≡ record f { sends = g.sends } → window_of g.sends ≡ with_answered (owner_of_frame id (due_owner (window_of f.sends))) (window_of f.sends) → id ≡ response_id frame → owner_of_frame id (due_owner (window_of f.sends)) ≡ Err (Unasked found) → (n m : ℕ) → m ≡ n → LeadsBy e ok (dead_flight (end.Unasked found) g) n m
+    answer_unasked g id found is window id_is says n m same_steps =
         let none : (due_send s ≡ None) × (found ≡ id) = unasked s (window_of f.sends) whole.1.window id found says in
         let same : window_of g.sends ≡ window_of f.sends = window ∙ ap (λ r. with_answered r (window_of f.sends)) says in
         let t : State = dead (end.Unasked (response_id frame)) s in
         let stands : Stands N runs (dead_flight (end.Unasked found) g) t = stands_dead N runs g s (same_sends g same is) (end.Unasked found) (end.Unasked (response_id frame)) (λ x c. ap (λ n. end.Unasked n) (none.1 ∙ id_is)) in
-        (t, steps N s t e ok (answers None none.0) stands.rest, stands)
+        (t, reaches_rest N s e ok n m t (answers None none.0) stands.rest same_steps refl, stands)
 
-    answer_mismatch : (g : Flight R) (id expected found : ℤ) → g ≡ record f { sends = g.sends } → window_of g.sends ≡ with_answered (owner_of_frame id (due_owner (window_of f.sends))) (window_of f.sends) → id ≡ response_id frame → owner_of_frame id (due_owner (window_of f.sends)) ≡ Err (Mismatch expected found) → Leads e ok (dead_flight (end.Mismatch expected found) g)
-    answer_mismatch g id expected found is window id_is says =
+    answer_mismatch : (g : Flight R) (id expected found : ℤ) → g ≡ record f { sends = g.sends } → window_of g.sends ≡ with_answered (owner_of_frame id (due_owner (window_of f.sends))) (window_of f.sends) → id ≡ response_id frame → owner_of_frame id (due_owner (window_of f.sends)) ≡ Err (Mismatch expected found) → (n n' : ℕ) → n' ≡ n → LeadsBy e ok (dead_flight (end.Mismatch expected found) g) n n'
+    answer_mismatch g id expected found is window id_is says n n' same_steps =
         let m : Mismatched s (window_of f.sends) whole.1.window id expected found = mismatch_by s (window_of f.sends) whole.1.window id expected found (due_send s) refl says in
         let same : window_of g.sends ≡ window_of f.sends = window ∙ ap (λ r. with_answered r (window_of f.sends)) says in
         let why : End = end.Mismatch (pos (upstream_id m.due.0)) (response_id frame) in
@@ -165,9 +172,9 @@ module _ {R : Type 0} (M : Meaning) (runs : R → List ℕ → List Outside → 
         let differs : int_eq (response_id frame) (pos (upstream_id m.due.0)) ≡ false = ap (λ n. int_eq n (pos (upstream_id m.due.0))) (sym id_is) ∙ m.other in
         let step : answer_to N s e ≡ (ok, t) = answers (Some m.due) m.is_due ∙ ap (λ b. (ok, if b then matched N s m.due.1 (drop 4 frame) else t)) differs in
         let stands : Stands N runs (dead_flight (end.Mismatch expected found) g) t = stands_dead N runs g s (same_sends g same is) (end.Mismatch expected found) why (λ x c. ap (λ n. end.Mismatch n found) m.expected_is ∙ ap (λ n. end.Mismatch (pos (upstream_id m.due.0)) n) (m.found_is ∙ id_is)) in
-        (t, steps N s t e ok step stands.rest, stands)
+        (t, reaches_rest N s e ok n n' t step stands.rest same_steps refl, stands)
 
-    pub answer_refused : (g : Flight R) (id : ℤ) (refusal : AnswerRefusal) → g ≡ record f { sends = g.sends } → window_of g.sends ≡ with_answered (owner_of_frame id (due_owner (window_of f.sends))) (window_of f.sends) → id ≡ response_id frame → owner_of_frame id (due_owner (window_of f.sends)) ≡ Err refusal → Leads e ok (dead_flight (refusal_end refusal) g)
+    pub answer_refused : (g : Flight R) (id : ℤ) (refusal : AnswerRefusal) → g ≡ record f { sends = g.sends } → window_of g.sends ≡ with_answered (owner_of_frame id (due_owner (window_of f.sends))) (window_of f.sends) → id ≡ response_id frame → owner_of_frame id (due_owner (window_of f.sends)) ≡ Err refusal → (n m : ℕ) → m ≡ n → LeadsBy e ok (dead_flight (refusal_end refusal) g) n m
     answer_refused g id (Unasked found) is window id_is says = answer_unasked g id found is window id_is says
     answer_refused g id (Mismatch expected found) is window id_is says = answer_mismatch g id expected found is window id_is says
 
@@ -229,12 +236,12 @@ module _ {R : Type 0} (M : Meaning) (runs : R → List ℕ → List Outside → 
       low_is low i = ap (λ c. below c.cut k) (sym whole.1.causes_is ∙ sym g_causes) ∙ (ap (λ n. below g.causes.cut n) (sym k_is) ∙ i)
 
       -- its request stands at the cut or behind it
-      answer_dropped : below s.causes.cut k ≡ false → Leads e ok g
-      answer_dropped low =
+      answer_dropped : below s.causes.cut k ≡ false → (n m : ℕ) → m ≡ n → LeadsBy e ok g n m
+      answer_dropped low n m none =
           let like : (j : ℕ) → SameFor j s b = λ j. record { request = refl; main = refl; listed = λ i. refl; picked = λ i. refl; pending = λ x. none_of_others j (λ i. (let never : true ≡ false = sym x ∙ (ap (λ n. below s.causes.cut n) i ∙ low) in cc)); served = λ x. x } in
           let carries : Carries N runs g b = carries_same N runs f g s b whole.1 like refl refl g_first (g_causes ∙ whole.1.causes_is) g_slots window whole.1.cut_behind in
           let stands : Stands N runs g b = record { halt_is = g_outside.halt ∙ h.halt_is; over_is = g_outside.over ∙ h.over_is; count_is = g_outside.count ∙ h.count_is; held_is = g_outside.held ∙ h.held_is; rest = h.rest; whole = λ none. (g_outside.requests ∙ whole.0, carries); free = λ none uncut. ap (λ x. x.free) is ∙ h.free none uncut } in
-          (b, steps N s b e ok (matched_is ∙ ap (λ c. (ok, if c then read_body (N.unreadable o.due.1.before body) k body b else b)) low) h.rest, stands)
+          (b, reaches_rest N s e ok n m b (matched_is ∙ ap (λ c. (ok, if c then read_body (N.unreadable o.due.1.before body) k body b else b)) low) h.rest none refl, stands)
 
       module _ (low : below s.causes.cut k ≡ true) where
         read_is : (why : Option (ℕ → End)) → N.unreadable o.due.1.before body ≡ why → answer_to N s e ≡ (ok, read_body why k body b)
@@ -250,8 +257,8 @@ module _ {R : Type 0} (M : Meaning) (runs : R → List ℕ → List Outside → 
         not_passed = not_passed_by (nat_lt k s.passed) refl
 
         -- its body can't be read
-        answer_unreadable : (cause : Cause) (new : Flight R) → Some (why_of cause) ≡ N.unreadable owner.before body → new ≡ cut_flight owner.request (why_of cause owner.request) g → Leads e ok new
-        answer_unreadable cause new bad new_is =
+        answer_unreadable : (cause : Cause) (new : Flight R) → Some (why_of cause) ≡ N.unreadable owner.before body → new ≡ cut_flight owner.request (why_of cause owner.request) g → (n m : ℕ) → m ≡ n → LeadsBy e ok new n m
+        answer_unreadable cause new bad new_is n m same_steps =
             let why : End = why_of cause k in
             let t : State = cut_at k why b in
             let step : answer_to N s e ≡ (ok, t) = read_is (Some (why_of cause)) (ap (λ x. N.unreadable x.before body) (sym o.owner_is) ∙ sym bad) in
@@ -260,10 +267,10 @@ module _ {R : Type 0} (M : Meaning) (runs : R → List ℕ → List Outside → 
             let carries : Carries N runs (cut_flight k why g) t = carries_same N runs f (cut_flight k why g) s t whole.1 like refl refl g_first (ap (λ c. with_cut k why c) (g_causes ∙ whole.1.causes_is)) g_slots (laws.stays b t (window_of g.sends) (refl, refl, refl) window) (behind_cut k why s.causes s.passed not_passed whole.1.cut_behind) in
             let rest = rest_lower N s (with_cut k why s.causes) (low_before_cut k why s.causes) h.rest in
             let stands : Stands N runs (cut_flight k why g) t = record { halt_is = g_outside.halt ∙ h.halt_is; over_is = g_outside.over ∙ h.over_is; count_is = g_outside.count ∙ h.count_is; held_is = g_outside.held ∙ h.held_is; rest = rest; whole = λ none. (g_outside.requests ∙ whole.0, carries); free = λ none cut. absurd (cut_stands (with_cut k why s.causes).cut k (not_low_at_cut k why s.causes) cut) } in
-            (t, steps N s t e ok step rest, subst (λ x. Stands N runs x t) same stands)
+            (t, reaches_rest N s e ok n m t step rest same_steps refl, subst (λ x. Stands N runs x t) same stands)
 
-        given_by : (new : Flight R) (n : ℕ) → n ≡ k → N.unreadable o.due.1.before body ≡ None → SameOutside f new → FlightGives M runs n (Body body) g new → Leads e ok new
-        given_by new n n_is readable outside gives =
+        given_by : (new : Flight R) (n : ℕ) → n ≡ k → N.unreadable o.due.1.before body ≡ None → SameOutside f new → (a a' : ℕ) → FlightGives M runs n (Body body) g new a a' → LeadsBy e ok new a a'
+        given_by new n n_is readable outside a a' gives =
             let le : first_of g ≤ k = subst (λ m. first_of g ≤ m) n_is gives.in_flight in
             let gives' : GivesAt M runs (k - first_of g) (Body body) g gives.mid = subst (λ m. GivesAt M runs (m - first_of g) (Body body) g gives.mid) n_is gives.gives in
             let number : s.passed + (k - first_of g) ≡ k = omega (arith, le, g_first, whole.1.first_is) in
@@ -273,29 +280,32 @@ module _ {R : Type 0} (M : Meaning) (runs : R → List ℕ → List Outside → 
             let counts : SameCounts s u = counts_given M runs f.limit s k (s.answered + 1) (Body body) kept.request kept.there in
             let place : ℕ = k - first_of g in
             let there' : slice_get u.requests k ≡ Some (record kept.request { given = kept.request.given ++ Body body ∷ [] }) = ap (λ t. slice_get t.requests k) (give_is k kept.request (Body body) b kept.there) ∙ set_here s.requests k kept.request _ kept.there in
-            let settles' : MatchBool (rests_in (slice_get gives.mid.slots.items place)) (new ≡ gives.mid) (FlightSettles N runs gives.mid new) = at_limit (new ≡ gives.mid) (λ limit. FlightSettles (limited limit M) runs gives.mid new) (rests_in (slice_get gives.mid.slots.items place)) (subst (λ m. MatchBool (rests_in (slice_get gives.mid.slots.items (m - first_of g))) (new ≡ gives.mid) ((limit : ℕ) → FlightSettles (limited limit M) runs gives.mid new)) n_is gives.settles) f.limit in
-            let done = settled_given N runs gives.mid new u place (rests_in (slice_get gives.mid.slots.items place)) refl settles' (omega (arith, counts.count, whole.0, gives.small, g_outside.requests)) carries (λ after found rest.
+            let settles' : MatchBool (rests_in (slice_get gives.mid.slots.items place)) ((new ≡ gives.mid) × (a' ≡ gives.between)) (FlightSettles N runs gives.mid new gives.between a') = at_limit ((new ≡ gives.mid) × (a' ≡ gives.between)) (λ limit. FlightSettles (limited limit M) runs gives.mid new gives.between a') (rests_in (slice_get gives.mid.slots.items place)) (subst (λ m. MatchBool (rests_in (slice_get gives.mid.slots.items (m - first_of g))) ((new ≡ gives.mid) × (a' ≡ gives.between)) ((limit : ℕ) → FlightSettles (limited limit M) runs gives.mid new gives.between a')) n_is gives.settles) f.limit in
+            let counts' : CountsAt M runs (k - first_of g) (Body body) g a gives.between = subst (λ m. CountsAt M runs (m - first_of g) (Body body) g a gives.between) n_is gives.counts in
+            let run : runs gives'.run kept.request.frame kept.request.given = run_stands N runs kept.request.frame kept.request.given gives'.slot.stage gives'.run kept.stage gives'.waits in
+            let grows : TakesGrowth N a gives.between s u = grows_given N a gives.between s u k kept.request (Body body) kept.there (ap (λ x. x.requests) (give_is k kept.request (Body body) b kept.there)) (counts' gives'.slot gives'.run gives'.there gives'.waits kept.request.frame kept.request.given run) in
+            let done = settled_given N runs gives.mid new u place gives.between a' (rests_in (slice_get gives.mid.slots.items place)) refl settles' (omega (arith, counts.count, whole.0, gives.small, g_outside.requests)) carries (λ after found rest.
             let there_kept : Keeps N runs u k after = subst (λ m. Keeps N runs u m after) (let e : u.passed + place ≡ k = omega (arith, number, counts.passed) in e) (carries.slots place after found) in (
               rest_given N runs b k (Body body) kept.request gives'.slot after gives'.run kept.there there' kept.stage kept.main gives'.waits there_kept rest h.rest,
               λ uncut. gives'.rest.free ∙ (ap (λ x. x.free) is ∙ (h.free no_halt uncut ∙ sym (free_rested N runs b k (Body body) kept.request gives'.slot after gives'.run kept.there there' kept.stage kept.main gives'.waits there_kept rest))),
             )) in
-            (done.0, steps_settling N s u done.0 e ok (read_is None readable) done.1.settles, stands_settled M runs f.limit f new s u done.0 h whole.1 whole.0 outside counts done.1)
+            (done.0, record { from = u; step = read_is None readable; settles = done.1.settles; grows = grows_trans N a gives.between a' s u done.0 grows done.2 }, stands_settled M runs f.limit f new s u done.0 h whole.1 whole.0 outside counts done.1)
 
-        answer_read : (cause : Option Cause) (new : Flight R) → cause_function cause ≡ N.unreadable owner.before body → SameOutside f new → GivesBodyBy M runs cause owner body g new → Leads e ok new
-        answer_read (Some cause) new bad outside gives = answer_unreadable cause new bad gives
-        answer_read None new readable outside gives = given_by new owner.request k_is (ap (λ x. N.unreadable x.before body) (sym o.owner_is) ∙ sym readable) outside gives
+        answer_read : (cause : Option Cause) (new : Flight R) → cause_function cause ≡ N.unreadable owner.before body → SameOutside f new → (n m : ℕ) → GivesBodyBy M runs cause owner body g new n m → LeadsBy e ok new n m
+        answer_read (Some cause) new bad outside n m gives = answer_unreadable cause new bad gives.0 n m gives.1
+        answer_read None new readable outside n m gives = given_by new owner.request k_is (ap (λ x. N.unreadable x.before body) (sym o.owner_is) ∙ sym readable) outside n m gives
 
         answer_wanting : (left : Flight R) → SameOutside f left → Leads e (reply.Answer (Err answer_fault.NoMemory)) (record left { causes = with_halt end.NoMemory left.causes })
         answer_wanting left outside =
             let takes : TakesMemory s e = (o.due, o.is_due, ap (λ n. n) (sym id_is) ∙ (Decides-int_eq id (pos (upstream_id o.due.0))).0 o.same, low) in
             (halted end.NoMemory s, gives_up N s _ e ok (reply.Answer (Err answer_fault.NoMemory)) takes matched_is refl, stands_wanting N runs f left s h outside)
 
-      answer_by : (low : Bool) (new : Flight R) → below s.causes.cut k ≡ low → SameOutside f new → FlightGivesBodyBy M runs low owner frame g new → Leads e ok new
-      answer_by false new low outside gives = subst (λ x. Leads e ok x) (sym gives) (answer_dropped low)
-      answer_by true new low outside gives = answer_read low gives.0 new gives.1 outside gives.2
+      answer_by : (low : Bool) (new : Flight R) → below s.causes.cut k ≡ low → SameOutside f new → (n m : ℕ) → FlightGivesBodyBy M runs low owner frame g new n m → LeadsBy e ok new n m
+      answer_by false new low outside n m gives = subst (λ x. LeadsBy e ok x n m) (sym gives.0) (answer_dropped low n m gives.1)
+      answer_by true new low outside n m gives = answer_read low gives.0 new gives.1 outside n m gives.2
 
-      pub answer_ok : (new : Flight R) → SameOutside g new → FlightGivesBody M runs owner frame g new → Leads e ok new
-      answer_ok new outside gives = answer_by (below g.causes.cut owner.request) new (low_is (below g.causes.cut owner.request) refl) (outside_trans f g new g_outside outside) gives
+      pub answer_ok : (new : Flight R) → SameOutside g new → (n m : ℕ) → FlightGivesBody M runs owner frame g new n m → LeadsBy e ok new n m
+      answer_ok new outside n m gives = answer_by (below g.causes.cut owner.request) new (low_is (below g.causes.cut owner.request) refl) (outside_trans f g new g_outside outside) n m gives
 
       pub answer_no_memory : (left : Flight R) → SameOutside g left → below g.causes.cut owner.request ≡ true → Leads e (reply.Answer (Err answer_fault.NoMemory)) (record left { causes = with_halt end.NoMemory left.causes })
       answer_no_memory left outside low = answer_wanting (low_is true low) left (outside_trans f g left g_outside outside)
@@ -379,8 +389,8 @@ module _ {R : Type 0} (M : Meaning) (runs : R → List ℕ → List Outside → 
         pub complete_wanting : (left : Flight R) → SameOutside f left → Leads M runs f s V (reply.Complete (Err complete_fault.NoMemory)) (record left { causes = with_halt end.NoMemory left.causes })
         complete_wanting left outside = (halted end.NoMemory s, gives_up (limited f.limit M) s _ V (reply.Complete (Ok tt)) (reply.Complete (Err complete_fault.NoMemory)) tt completes refl, stands_wanting (limited f.limit M) runs f left s h outside)
 
-        pub complete_ok : (new : Flight R) → SameOutside f new → FlightGives M runs k (Verdict verdict) f new → Leads M runs f s V (reply.Complete (Ok tt)) new
-        complete_ok new outside gives =
+        pub complete_ok : (new : Flight R) → SameOutside f new → (n m : ℕ) → FlightGives M runs k (Verdict verdict) f new n m → LeadsBy M runs f s V (reply.Complete (Ok tt)) new n m
+        complete_ok new outside n n' gives =
             let place : ℕ = k - first_of f in
             let number : s.passed + place ≡ k = omega (arith, gives.in_flight, all.1.first_is) in
             let kept : Keeps (limited f.limit M) runs s k gives.gives.slot = subst (λ m. Keeps (limited f.limit M) runs s m gives.gives.slot) number (all.1.slots place gives.gives.slot gives.gives.there) in
@@ -390,10 +400,12 @@ module _ {R : Type 0} (M : Meaning) (runs : R → List ℕ → List Outside → 
             let carries : Carries (limited f.limit M) runs gives.mid u = carries_given M runs f.limit f f gives.mid s k s.answered (Verdict verdict) all.1 refl refl refl gives.in_flight gives.gives all.1.window (λ j ne x. refl) (λ x. kept.pending x ∙ ap (λ b. one_if b) holds) in
             let counts : SameCounts s u = counts_given M runs f.limit s k s.answered (Verdict verdict) kept.request kept.there in
             let there' : slice_get u.requests k ≡ Some (record kept.request { given = kept.request.given ++ Verdict verdict ∷ [] }) = ap (λ t. slice_get t.requests k) (give_is k kept.request (Verdict verdict) s kept.there) ∙ set_here s.requests k kept.request _ kept.there in
-            let settles' : MatchBool (rests_in (slice_get gives.mid.slots.items place)) (new ≡ gives.mid) (FlightSettles (limited f.limit M) runs gives.mid new) = at_limit (new ≡ gives.mid) (λ limit. FlightSettles (limited limit M) runs gives.mid new) (rests_in (slice_get gives.mid.slots.items place)) gives.settles f.limit in
-            let done = settled_given (limited f.limit M) runs gives.mid new u place (rests_in (slice_get gives.mid.slots.items place)) refl settles' (omega (arith, counts.count, all.0, gives.small)) carries (λ after found rest.
+            let run : runs gives.gives.run kept.request.frame kept.request.given = run_stands (limited f.limit M) runs kept.request.frame kept.request.given gives.gives.slot.stage gives.gives.run kept.stage gives.gives.waits in
+            let grows : TakesGrowth (limited f.limit M) n gives.between s u = grows_given (limited f.limit M) n gives.between s u k kept.request (Verdict verdict) kept.there (ap (λ x. x.requests) (give_is k kept.request (Verdict verdict) s kept.there)) (gives.counts gives.gives.slot gives.gives.run gives.gives.there gives.gives.waits kept.request.frame kept.request.given run) in
+            let settles' : MatchBool (rests_in (slice_get gives.mid.slots.items place)) ((new ≡ gives.mid) × (n' ≡ gives.between)) (FlightSettles (limited f.limit M) runs gives.mid new gives.between n') = at_limit ((new ≡ gives.mid) × (n' ≡ gives.between)) (λ limit. FlightSettles (limited limit M) runs gives.mid new gives.between n') (rests_in (slice_get gives.mid.slots.items place)) gives.settles f.limit in
+            let done = settled_given (limited f.limit M) runs gives.mid new u place gives.between n' (rests_in (slice_get gives.mid.slots.items place)) refl settles' (omega (arith, counts.count, all.0, gives.small)) carries (λ after found rest.
             let there_kept : Keeps (limited f.limit M) runs u k after = subst (λ m. Keeps (limited f.limit M) runs u m after) (let e : u.passed + place ≡ k = omega (arith, number, counts.passed) in e) (carries.slots place after found) in (
               rest_given (limited f.limit M) runs s k (Verdict verdict) kept.request gives.gives.slot after gives.gives.run kept.there there' kept.stage kept.main gives.gives.waits there_kept rest h.rest,
               λ uncut. gives.gives.rest.free ∙ (h.free unhalted uncut ∙ sym (free_rested (limited f.limit M) runs s k (Verdict verdict) kept.request gives.gives.slot after gives.gives.run kept.there there' kept.stage kept.main gives.gives.waits there_kept rest)),
             )) in
-            (done.0, steps_settling (limited f.limit M) s u done.0 V (reply.Complete (Ok tt)) completes done.1.settles, stands_settled M runs f.limit f new s u done.0 h all.1 all.0 outside counts done.1)
+            (done.0, record { from = u; step = completes; settles = done.1.settles; grows = grows_trans (limited f.limit M) n gives.between n' s u done.0 grows done.2 }, stands_settled M runs f.limit f new s u done.0 h all.1 all.0 outside counts done.1)

@@ -1,25 +1,26 @@
 -- A request that was just given something and rests leaves the connection settled.
-use Rattle.std.proofs.Common.{◌≡◌, ◌∙◌, ap, refl, sym, subst, ℕ, ◌+◌, ◌≤◌, ◌<◌, ◌^◌, ◌==◌, Bool, true, false, ◌&&◌, ◌||◌, List, [], ◌∷◌, ◌++◌, length, Option, Some, None, slice_get, slice_set, arith}
+use Rattle.std.proofs.Common.{◌≡◌, ◌∙◌, ap, refl, sym, subst, ℕ, ◌<◌, ◌^◌, ◌==◌, Bool, true, false, ◌&&◌, ◌||◌, List, [], ◌∷◌, ◌++◌, length, Option, Some, None, slice_get, arith}
 use Rattle.std.specs.Prelude.{MatchBool}
 use Rattle.conn_rules.specs.Causes.{below}
 use Rattle.conn_rules.specs.Meaning.{Meaning}
-use Rattle.conn_rules.specs.Settling.{is_listed, act_of, next_act}
+use Rattle.conn_rules.specs.Settling.{is_listed, next_act}
 use Rattle.conn_rules.specs.Settling.{lets_later_go as lets_go}
-use Rattle.conn_rules.specs.State.{Outside, Request, State, give, given_more}
-use Rattle.conn_rules.specs.Sweep.{free_before, act_in, act_at, SweepLaws}
+use Rattle.conn_rules.specs.State.{Outside, Request, State, give}
+use Rattle.conn_rules.specs.Sweep.{free_before, act_in, act_at}
+use Rattle.conn_rules.specs.Work.{TakesGrowth}
 use Rattle.conn_rules.proofs.Sweep.{sweeps}
-use Rattle.serving.specs.declared.cause.Cause.{Cause}
 use Rattle.serving.specs.declared.flight.Flight.{Flight}
 use Rattle.serving.specs.declared.slot.Slot.{Slot}
 use Rattle.serving.specs.declared.slot.Stage.{Stage}
 use Rattle.serving.specs.declared.slot.Stage.TheVariants as stage
-use Rattle.serving.specs.Slots.{is_ready, holds_none_back, stage_rests, rests, rests_in, awaits_response, waiting_run, lists_at, has_main, IsStage, Keeps}
-use Rattle.serving.specs.Listing.{SameCounts, Carries, TellsFree, IsSettled, FlightSettles}
+use Rattle.serving.specs.Slots.{is_ready, stage_rests, rests, rests_in, awaits_response, waiting_run, has_main, IsStage, Keeps}
+use Rattle.serving.specs.Listing.{Carries, TellsFree, IsSettled, FlightSettles}
 use Rattle.serving.proofs.Places.{eqb_same}
 use Rattle.serving.proofs.Settle.{IsAtRest, no_act_by, lets_by, if_none}
 use Rattle.serving.proofs.Asks.{give_is}
 use Rattle.serving.proofs.Freed.{free_given}
 use Rattle.serving.proofs.Sweeping.{counts_refl}
+use Rattle.serving.proofs.Working.{grows_none}
 
 -- it has nothing to do
 at_rest : {R : Type 0} → (main free : Bool) (at : Stage R) → stage_rests main at ≡ true → IsAtRest free at
@@ -88,8 +89,8 @@ module _ {R : Type 0} (M : Meaning) (runs : R → List ℕ → List Outside → 
   found_rests (Some after) is quiet = quiet after refl is
 
   -- so it is settled, with or without a sweep
-  pub settled_given : (mid new : Flight R) (u : State) (place : ℕ) (rested : Bool) → rests_in (slice_get mid.slots.items place) ≡ rested → MatchBool rested (new ≡ mid) (FlightSettles M runs mid new) → length u.requests < 2 ^ 64 → Carries M runs mid u → ((after : Slot R) → slice_get mid.slots.items place ≡ Some after → rests after ≡ true → (next_act M u ≡ None) × TellsFree M mid u) → (t : State) × IsSettled M runs new u t
-  settled_given mid new u place true is same small carries quiet =
+  pub settled_given : (mid new : Flight R) (u : State) (place n m : ℕ) (rested : Bool) → rests_in (slice_get mid.slots.items place) ≡ rested → MatchBool rested ((new ≡ mid) × (m ≡ n)) (FlightSettles M runs mid new n m) → length u.requests < 2 ^ 64 → Carries M runs mid u → ((after : Slot R) → slice_get mid.slots.items place ≡ Some after → rests after ≡ true → (next_act M u ≡ None) × TellsFree M mid u) → (t : State) × IsSettled M runs new u t × TakesGrowth M n m u t
+  settled_given mid new u place n m true is same small carries quiet =
       let found : (next_act M u ≡ None) × TellsFree M mid u = found_rests (slice_get mid.slots.items place) is quiet in
-      (u, record { settles = (sweeps M).rests u found.0; carries = subst (λ f. Carries M runs f u) (sym same) carries; counts = counts_refl u; free = subst (λ f. TellsFree M f u) (sym same) found.1 })
-  settled_given mid new u place false is settles small carries quiet = settles u small carries
+      (u, record { settles = (sweeps M).rests u found.0; carries = subst (λ f. Carries M runs f u) (sym same.0) carries; counts = counts_refl u; free = subst (λ f. TellsFree M f u) (sym same.0) found.1 }, grows_none M n m u u same.1 refl)
+  settled_given mid new u place n m false is settles small carries quiet = settles u small carries

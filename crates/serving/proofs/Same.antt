@@ -9,6 +9,7 @@ use Rattle.conn_rules.specs.Settling.{lets_later_go}
 use Rattle.conn_rules.specs.State.{Outside, Request, ListedSend, State, cut_at}
 use Rattle.conn_rules.specs.Sweep.{free_before, SweepLaws}
 use Rattle.conn_rules.proofs.Sweep.{sweeps}
+use Rattle.conn_rules.proofs.Resting.{low_before_cut}
 use Rattle.serving.specs.declared.slot.Slot.{Slot}
 use Rattle.serving.specs.Slots.{has_main, Keeps, IsPassed, IsUntouched}
 use Rattle.serving.specs.Listing.{SameFor, OnlyAt, IsCutBehind, SettlesOn, GoesTo}
@@ -29,18 +30,6 @@ same_trans j s t u f g =
     }
 
 -- a cut at request k
-cut_low : (k : ℕ) (why : End) (cut : Option (ℕ × End)) (j : ℕ) (low : Bool) → below cut k ≡ low → below (if low then Some (k, why) else cut) j ≡ true → below cut j ≡ true
-cut_low k why None j true is h = refl
-cut_low k why None j false is h = refl
-cut_low k why (Some cut) j true is h =
-    let a : j < k = ltb-true j k h in
-    let b : k < cut.0 = ltb-true k cut.0 is in
-    lt-ltb j cut.0 (omega (arith, a, b))
-cut_low k why (Some cut) j false is h = h
-
-pub low_before_cut : (k : ℕ) (why : End) (c : Causes) (j : ℕ) → below (with_cut k why c).cut j ≡ true → below c.cut j ≡ true
-low_before_cut k why c j h = cut_low k why c.cut j (below c.cut k) refl h
-
 not_below : (k : ℕ) (lt : Bool) → nat_lt k k ≡ lt → lt ≡ false
 not_below k true h = absurd (let e : k < k = ltb-true k k h in omega (arith, e))
 not_below k false h = refl

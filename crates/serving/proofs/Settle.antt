@@ -1,28 +1,23 @@
 -- One request settles, and the sweep goes on to the next.
-use Rattle.std.proofs.Common.{◌≡◌, ◌≢◌, ◌∙◌, ap, refl, sym, subst, ℕ, zero, suc, ◌+◌, ◌-◌, ◌≤◌, ◌<◌, ◌^◌, ◌==◌, Bool, true, false, not, ◌&&◌, ◌||◌, cond, if◌then◌else◌, List, [], ◌∷◌, ◌++◌, length, take, drop, Option, Some, None, slice_get, slice_set, arith, length-set, ◌⊎◌, inl, inr}
-use Rattle.std.proofs.lemmas.Option.{slice_get_within}
+use Rattle.std.proofs.Common.{◌≡◌, ◌∙◌, ap, refl, sym, subst, ℕ, ◌==◌, Bool, true, false, not, ◌&&◌, ◌||◌, if◌then◌else◌, List, length, Option, Some, None, arith}
 use Rattle.kp_edge.specs.declared.end.End.{End}
 use Rattle.conn_rules.specs.declared.causes.Causes.{Causes}
 use Rattle.conn_rules.specs.Causes.{below, with_cut}
-use Rattle.conn_rules.specs.Meaning.{Meaning, ToBroker, Hold, Status, Waits, Done, Fails}
-use Rattle.conn_rules.specs.Settling.{Act, CutAt, Lists, is_listed, act_of, acted, next_act, Settles}
+use Rattle.conn_rules.specs.Meaning.{Meaning, Fails}
+use Rattle.conn_rules.specs.Settling.{Act, CutAt, is_listed, act_of, next_act}
 use Rattle.conn_rules.specs.Settling.{lets_later_go as lets_go}
-use Rattle.conn_rules.specs.State.{Outside, Request, ListedSend, State, cut_at}
-use Rattle.conn_rules.specs.Sweep.{IsQuietBefore, free_before, act_in, act_at, SweepLaws, HasResponse}
+use Rattle.conn_rules.specs.State.{Outside, ListedSend, State, cut_at}
+use Rattle.conn_rules.specs.Sweep.{IsQuietBefore, free_before, act_in, act_at}
 use Rattle.conn_rules.proofs.Sweep.{sweeps}
 use Rattle.correlation.specs.Windows.{Window}
-use Rattle.correlation.specs.IsWindow.{IsWindow, WindowLaws}
 use Rattle.correlation.proofs.WindowLaws.{laws}
 use Rattle.serving.specs.declared.cause.Cause.{Cause}
-use Rattle.serving.specs.declared.frame.WholeFrame.{WholeFrame}
-use Rattle.serving.specs.declared.message.Message.{Message}
 use Rattle.serving.specs.declared.slot.Slot.{Slot}
 use Rattle.serving.specs.declared.slot.Stage.{Stage}
 use Rattle.serving.specs.declared.slot.Stage.TheVariants as stage
 use Rattle.serving.specs.Causes.{why_of}
-use Rattle.serving.specs.Services.{awaits_answer_to, IsDone}
-use Rattle.serving.specs.Slots.{is_ready, holds_none_back, lists_at, may_list, awaits_response, has_main, IsStage, Keeps}
-use Rattle.serving.specs.Listing.{SameFor, OnlyAt, IsSweptTo, IsSweptPast, SettlesOn, GoesTo, IsSettledAt, SettlesAt, Advances}
+use Rattle.serving.specs.Slots.{is_ready, holds_none_back, lists_at, awaits_response, has_main, IsStage}
+use Rattle.serving.specs.Listing.{IsSweptTo, IsSweptPast, GoesTo, IsSettledAt, SettlesAt, Advances}
 use Rattle.serving.proofs.Places.{eqb_same}
 use Rattle.serving.proofs.Freed.{cut_stands}
 use Rattle.serving.proofs.Same.{same_cut, only_cut, goes_refl, goes_trans, keeps_same, not_low_at_cut}
@@ -111,27 +106,27 @@ module _ {R : Type 0} (M : Meaning) (runs : R → List ℕ → List Outside → 
           }
 
   -- what one request does by itself, behind what it listed
-  module _ (k : ℕ) (free : Bool) (causes : Causes) (old new : Slot R) (w v : Window) where
+  module _ (k : ℕ) (free : Bool) (causes : Causes) (old new : Slot R) (w v : Window) (n m : ℕ) where
     -- it stands at the cut, or behind it
-    pub settles_none : below causes.cut k ≡ false → SettlesAt M runs k free causes old w None causes old w
+    pub settles_none : below causes.cut k ≡ false → SettlesAt M runs k free causes old w None causes old w n n
     settles_none low s same h =
         let low' : below s.causes.cut k ≡ false = ap (λ c. below c.cut k) (sym same) ∙ low in
-        (s, record { goes = goes_refl M k s; causes_is = same; kept = h.kept; window = h.window; past_is = ((sweeps M).ends_at_cut s k low' h.quiet, cut_stands s.causes.cut k low') })
+        (s, record { goes = goes_refl M k s; causes_is = same; kept = h.kept; window = h.window; past_is = ((sweeps M).ends_at_cut s k low' h.quiet, cut_stands s.causes.cut k low') }, refl)
 
-    module _ (low : below causes.cut k ≡ true) (lists : Advances M runs k free old w new v) where
+    module _ (low : below causes.cut k ≡ true) (lists : Advances M runs k free old w new v n m) where
       settled_by : (s t : State) (causes' : Causes) (past : Option Bool) (u : State) → GoesTo M k s t → IsSettledAt M runs k t causes' new v past u → IsSettledAt M runs k s causes' new v past u
       settled_by s t causes' past u goes h = record { goes = goes_trans M k s t u goes h.goes; causes_is = h.causes_is; kept = h.kept; window = h.window; past_is = h.past_is }
 
-      pub settles_past : (lets : Bool) → lets ≡ (free && holds_none_back new) → IsAtRest free new.stage → SettlesAt M runs k free causes old w (Some lets) causes new v
+      pub settles_past : (lets : Bool) → lets ≡ (free && holds_none_back new) → IsAtRest free new.stage → SettlesAt M runs k free causes old w (Some lets) causes new v n m
       settles_past lets is rest s same h =
           let next = lists s (ap (λ c. below c.cut k) (sym same) ∙ low) h in
           let t : State = next.0 in
           let past : IsSweptPast M t k (Some lets) = subst (λ b. IsSweptPast M t k (Some b)) (sym is) (swept_past k free new v t next.3 rest) in
-          (t, settled_by s t causes (Some lets) t next.1 (record { goes = goes_refl M k t; causes_is = same ∙ sym next.2; kept = next.3.kept; window = next.3.window; past_is = past }))
+          (t, settled_by s t causes (Some lets) t next.1 (record { goes = goes_refl M k t; causes_is = same ∙ sym next.2; kept = next.3.kept; window = next.3.window; past_is = past }), next.4)
 
-      pub settles_failing : (cause : Cause) → new.stage ≡ stage.Failed cause → SettlesAt M runs k free causes old w None (with_cut k (why_of cause k) causes) new v
+      pub settles_failing : (cause : Cause) → new.stage ≡ stage.Failed cause → SettlesAt M runs k free causes old w None (with_cut k (why_of cause k) causes) new v n m
       settles_failing cause is s same h =
           let next = lists s (ap (λ c. below c.cut k) (sym same) ∙ low) h in
           let t : State = next.0 in
           let low' : below t.causes.cut k ≡ true = ap (λ c. below c.cut k) (next.2 ∙ sym same) ∙ low in
-          (cut_at k (why_of cause k) t, settled_by s t (with_cut k (why_of cause k) causes) None (cut_at k (why_of cause k) t) next.1 (settled_failing k free new v t next.3 cause is low' causes (same ∙ sym next.2)))
+          (cut_at k (why_of cause k) t, settled_by s t (with_cut k (why_of cause k) causes) None (cut_at k (why_of cause k) t) next.1 (settled_failing k free new v t next.3 cause is low' causes (same ∙ sym next.2)), next.4)

@@ -1,23 +1,22 @@
 -- All requests settle, one after another.
-use Rattle.std.proofs.Common.{◌≡◌, ◌≢◌, ◌∙◌, ap, refl, sym, subst, ℕ, zero, suc, ◌+◌, ◌-◌, ◌≤◌, ◌<◌, ◌^◌, Bool, true, false, ◌&&◌, List, [], ◌∷◌, ◌++◌, length, take, drop, Option, Some, None, slice_get, slice_set, arith, length-set, ◌⊎◌, inl, inr}
+use Rattle.std.proofs.Common.{◌≡◌, ◌≢◌, ◌∙◌, ap, refl, sym, subst, ℕ, zero, suc, ◌+◌, ◌-◌, ◌≤◌, ◌<◌, ◌^◌, Bool, true, List, [], ◌∷◌, length, take, Option, Some, None, slice_get, slice_set, arith, length-set, ◌⊎◌, inl, inr}
 use Rattle.std.specs.Prelude.{All}
 use Rattle.std.proofs.lemmas.Option.{slice_get_within}
-use Rattle.conn_rules.specs.declared.causes.Causes.{Causes}
 use Rattle.conn_rules.specs.Meaning.{Meaning, Done}
-use Rattle.conn_rules.specs.Settling.{next_act, Settles}
-use Rattle.conn_rules.specs.State.{Outside, Request, State}
-use Rattle.conn_rules.specs.Sweep.{IsQuietBefore, free_before, SweepLaws, HasResponse}
+use Rattle.conn_rules.specs.Settling.{next_act}
+use Rattle.conn_rules.specs.State.{Outside, State}
+use Rattle.conn_rules.specs.Sweep.{IsQuietBefore, free_before, HasResponse}
+use Rattle.conn_rules.specs.Work.{TakesGrowth}
 use Rattle.conn_rules.proofs.Sweep.{sweeps}
-use Rattle.correlation.specs.Windows.{Window}
 use Rattle.correlation.specs.WindowOf.{window_of}
-use Rattle.correlation.specs.IsWindow.{IsWindow}
 use Rattle.serving.specs.declared.flight.Flight.{Flight}
 use Rattle.serving.specs.declared.slot.Slot.{Slot}
 use Rattle.serving.specs.Flights.{first_of}
-use Rattle.serving.specs.Slots.{Keeps, IsPassed, IsUntouched}
-use Rattle.serving.specs.Listing.{SameFor, OnlyAt, IsCutBehind, SameOutside, SameCounts, IsSweptTo, IsSweptPast, SettlesOn, GoesTo, IsSettledAt, SettlesAt, Carries, IsSettled, AreQuiet, FlightSettles, FlightSettlesFrom, IsSweptUpTo, SettlesUpTo}
+use Rattle.serving.specs.Slots.{Keeps, IsPassed}
+use Rattle.serving.specs.Listing.{OnlyAt, IsCutBehind, SameOutside, SameCounts, IsSweptTo, IsSweptPast, IsSettledAt, SettlesAt, Carries, AreQuiet, FlightSettles, FlightSettlesFrom, IsSweptUpTo, SettlesUpTo}
 use Rattle.serving.proofs.Freed.{free_past}
-use Rattle.serving.proofs.Places.{set_here, set_other, all_of, dropped, is_there}
+use Rattle.serving.proofs.Working.{grows_trans}
+use Rattle.serving.proofs.Places.{set_here, set_other, all_of}
 use Rattle.serving.proofs.Same.{keeps_same, passed_same, untouched_same}
 
 pub outside_refl : {R : Type 0} → (f : Flight R) → SameOutside f f
@@ -60,12 +59,12 @@ module _ {R : Type 0} (M : Meaning) (runs : R → List ℕ → List Outside → 
   free_first : (f : Flight R) (s : State) → Carries M runs f s → true ≡ free_before M s (s.passed + 0)
   free_first f s h = sym (subst (λ n. free_before M s n ≡ true) (let at : s.passed ≡ s.passed + 0 = omega arith in at) ((sweeps M).answered_free s s.passed (all_done f s h)))
 
-  pub from_first : (old new : Flight R) → FlightSettlesFrom M runs 0 true old new → FlightSettles M runs old new
-  from_first old new settles s small h = settles s small h (record { quiet = quiet_first old s h; free_is = free_first old s h })
+  pub from_first : (old new : Flight R) (n m : ℕ) → FlightSettlesFrom M runs 0 true old new n m → FlightSettles M runs old new n m
+  from_first old new n m settles s small h = settles s small h (record { quiet = quiet_first old s h; free_is = free_first old s h })
 
   -- the sweep begins at a place before which nothing is to be done
-  pub begins : (f : Flight R) (from : ℕ) (free : Bool) → SettlesUpTo M runs from free from free f f
-  begins f from free s small h before = (
+  pub begins : (f : Flight R) (from : ℕ) (free : Bool) (n : ℕ) → SettlesUpTo M runs from free from free f f n n
+  begins f from free n s small h before = (
     s,
     record {
       settles = λ u done. done;
@@ -74,14 +73,15 @@ module _ {R : Type 0} (M : Meaning) (runs : R → List ℕ → List Outside → 
       quiet = before.quiet;
       free_is = before.free_is;
     },
+    refl,
   )
 
   -- and goes on to the next, or ends
-  module _ (from : ℕ) (first : Bool) (place : ℕ) (free : Bool) (old mid new : Flight R) (before after : Slot R) (past : Option Bool) (so_far : SettlesUpTo M runs from first place free old mid)
+  module _ (from : ℕ) (first : Bool) (place : ℕ) (free : Bool) (old mid new : Flight R) (before after : Slot R) (past : Option Bool) (n m o : ℕ) (so_far : SettlesUpTo M runs from first place free old mid n m)
       (there : slice_get mid.slots.items place ≡ Some before)
       (slots : new.slots.items ≡ slice_set mid.slots.items place after)
       (counts : (new.count ≡ mid.count) × (new.requests ≡ mid.requests))
-      (settles : (k : ℕ) → k ≡ first_of mid + place → k < 2 ^ 64 → SettlesAt M runs k free mid.causes before (window_of mid.sends) past new.causes after (window_of new.sends)) where
+      (settles : (k : ℕ) → k ≡ first_of mid + place → k < 2 ^ 64 → SettlesAt M runs k free mid.causes before (window_of mid.sends) past new.causes after (window_of new.sends) m o) where
     carried : (k : ℕ) (t u : State) → k ≡ t.passed + place → Carries M runs mid t → IsSettledAt M runs k t new.causes after (window_of new.sends) past u → Carries M runs new u
     carried k t u is h g =
         let long : length (slice_set mid.slots.items place after) ≡ length mid.slots.items = length-set mid.slots.items place after in
@@ -120,6 +120,7 @@ module _ {R : Type 0} (M : Meaning) (runs : R → List ℕ → List Outside → 
       number : k ≡ before_it.passed + place
       far : IsSweptUpTo M runs place free mid s before_it
       here : IsSettledAt M runs k before_it new.causes after (window_of new.sends) past to
+      grows : TakesGrowth M n o s to
 
     went : (s : State) → length s.requests < 2 ^ 64 → Carries M runs old s → AreQuiet M from first s → Went s
     went s small h q =
@@ -137,9 +138,9 @@ module _ {R : Type 0} (M : Meaning) (runs : R → List ℕ → List Outside → 
           window = far.1.carries.window;
         } in
         let here = settles k refl fits t far.1.carries.causes_is swept in
-        record { before_it = t; to = here.0; k = k; number = number; far = far.1; here = here.1 }
+        record { before_it = t; to = here.0; k = k; number = number; far = far.1; here = here.1; grows = grows_trans M n m o s t here.0 far.2 here.2 }
 
-    pub goes_on : (lets : Bool) → past ≡ Some lets → SettlesUpTo M runs from first (place + 1) lets old new
+    pub goes_on : (lets : Bool) → past ≡ Some lets → SettlesUpTo M runs from first (place + 1) lets old new n o
     goes_on lets is s small h q =
         let w : Went s = went s small h q in
         let next : (IsQuietBefore M w.to (suc w.k)) × (lets ≡ free_before M w.to (suc w.k)) = subst (λ p. IsSweptPast M w.to w.k p) is w.here.past_is in
@@ -152,9 +153,10 @@ module _ {R : Type 0} (M : Meaning) (runs : R → List ℕ → List Outside → 
             quiet = subst (λ n. IsQuietBefore M w.to n) number next.0;
             free_is = next.1 ∙ ap (λ n. free_before M w.to n) number;
           },
+          w.grows,
         )
 
-    pub ends_early : past ≡ None → FlightSettlesFrom M runs from first old new
+    pub ends_early : past ≡ None → FlightSettlesFrom M runs from first old new n o
     ends_early is s small h q =
         let w : Went s = went s small h q in
         let rest : (next_act M w.to ≡ None) × (w.to.causes.cut ≢ None) = subst (λ p. IsSweptPast M w.to w.k p) is w.here.past_is in (
@@ -165,11 +167,12 @@ module _ {R : Type 0} (M : Meaning) (runs : R → List ℕ → List Outside → 
             counts = counts_only w.k s w.before_it w.to w.far.counts w.here.goes.only;
             free = λ none. absurd (rest.1 none);
           },
+          w.grows,
         )
 
   -- behind the last request nothing is left to do
-  pub ends : (from : ℕ) (first : Bool) (place : ℕ) (free : Bool) (old new : Flight R) → SettlesUpTo M runs from first place free old new → length old.slots.items ≤ place → FlightSettlesFrom M runs from first old (record new { free = free })
-  ends from first place free old new so_far le s small h q =
+  pub ends : (from : ℕ) (first : Bool) (place : ℕ) (free : Bool) (old new : Flight R) (n m : ℕ) → SettlesUpTo M runs from first place free old new n m → length old.slots.items ≤ place → FlightSettlesFrom M runs from first old (record new { free = free }) n m
+  ends from first place free old new n m so_far le s small h q =
       let far = so_far s small h q in
       let t : State = far.0 in
       let past : length t.requests ≤ t.passed + place = omega (arith, le, h.there, far.1.counts.passed, far.1.counts.count) in
@@ -182,4 +185,5 @@ module _ {R : Type 0} (M : Meaning) (runs : R → List ℕ → List Outside → 
           counts = far.1.counts;
           free = λ none. far.1.free_is ∙ free_past M t (t.passed + place) past;
         },
+        far.2,
       )

@@ -1,39 +1,38 @@
 -- A frame comes from the client.
-use Rattle.std.proofs.Common.{◌≡◌, ◌≢◌, ◌∙◌, ap, refl, sym, subst, ℕ, zero, suc, ◌+◌, ◌-◌, ◌≤◌, ◌<◌, ◌^◌, ◌==◌, nat_lt, Bool, true, false, ◌&&◌, ◌||◌, is_some, if◌then◌else◌, List, [], ◌∷◌, ◌++◌, length, drop, Option, Some, None, Ok, Err, slice_get, slice_set, arith, length-append, ◌⊎◌, inl, inr}
+use Rattle.std.proofs.Common.{◌≡◌, ◌∙◌, ap, refl, sym, subst, ℕ, ◌+◌, ◌-◌, ◌≤◌, ◌<◌, ◌^◌, ◌==◌, nat_lt, Bool, true, false, ◌&&◌, ◌||◌, is_some, List, [], ◌∷◌, ◌++◌, length, drop, Option, Some, None, Ok, Err, slice_get, arith, length-append}
 use Rattle.std.specs.Prelude.{sum_by}
 use Rattle.std.proofs.lemmas.List.{drop-append-le}
 use Rattle.std.proofs.lemmas.List.Sums.{sum_by_push}
 use Rattle.std.proofs.lemmas.Bool.{ltb-true, ltb-false}
-use Rattle.std.proofs.lemmas.Option.{slice_get_within, slice_get_past}
+use Rattle.std.proofs.lemmas.Option.{slice_get_within}
 use Rattle.kp_edge.specs.declared.end.End.{End}
 use Rattle.kp_edge.specs.declared.end.End.TheVariants as end
-use Rattle.conn_rules.specs.declared.causes.Causes.{Causes}
 use Rattle.conn_rules.specs.declared.event.Event.TheVariants as event
 use Rattle.conn_rules.specs.declared.event.Reply.TheVariants as reply
 use Rattle.conn_rules.specs.declared.event.TakeFault.TheVariants as take_fault
-use Rattle.conn_rules.specs.Causes.{below, first_cause, with_cut, with_halt, are_ending}
+use Rattle.conn_rules.specs.Causes.{first_cause, with_halt, are_ending}
 use Rattle.conn_rules.specs.Meaning.{Meaning}
 use Rattle.conn_rules.specs.Room.{has_room, limited}
-use Rattle.conn_rules.specs.Sweep.{IsQuietBefore, free_before, SweepLaws}
+use Rattle.conn_rules.specs.Sweep.{IsQuietBefore, free_before}
 use Rattle.conn_rules.proofs.Sweep.{sweeps}
 use Rattle.conn_rules.specs.State.{Outside, Request, State, cut_at, halted, held, in_flight}
-use Rattle.conn_rules.specs.Steps.{joined, take_step, answer_to, StepOrNoMemory}
-use Rattle.correlation.specs.IsWindow.{IsWindow, WindowLaws}
+use Rattle.conn_rules.specs.Steps.{joined, answer_to, StepOrNoMemory}
+use Rattle.correlation.specs.IsWindow.{IsWindow}
 use Rattle.correlation.proofs.WindowLaws.{laws}
 use Rattle.correlation.specs.WindowOf.{window_of}
 use Rattle.serving.specs.declared.cause.Cause.{Cause}
 use Rattle.serving.specs.declared.flight.Flight.{Flight}
 use Rattle.serving.specs.declared.slot.Slot.{Slot}
 use Rattle.serving.specs.Causes.{why_of}
-use Rattle.serving.specs.Flights.{first_of}
-use Rattle.serving.specs.Slots.{fresh_slot, stage_of, awaits_response, awaits_verdict, one_if, Keeps, IsPassed, IsUntouched}
+use Rattle.serving.specs.Slots.{fresh_slot, stage_of, awaits_response, awaits_verdict, one_if, Keeps, IsUntouched}
 use Rattle.serving.specs.Listing.{SameFor, SameOutside, Carries, IsSettled, AreQuiet}
 use Rattle.serving.specs.Stands.{Stands, Joins, Counts, FlightTakes, FlightTakesBy, cut_flight}
 use Rattle.serving.proofs.Places.{behind_here, behind_before}
 use Rattle.serving.proofs.Same.{keeps_same, passed_same}
 use Rattle.serving.proofs.Asks.{stage_is, begun_unanswered, begun_unpicked}
 use Rattle.serving.proofs.Freed.{free_joined}
-use Rattle.serving.proofs.Notes.{steps, steps_settling, gives_up, stands_cut}
+use Rattle.serving.proofs.Notes.{gives_up, stands_cut}
+use Rattle.serving.proofs.Working.{Reaches, reaches_rest, grows_trans, grows_joined}
 
 pub some_halt : (h : Option End) (why : End) → first_cause h why ≡ None → ⊥
 some_halt None why e = cc
@@ -102,18 +101,18 @@ module _ {R : Type 0} (M : Meaning) (runs : R → List ℕ → List Outside → 
         )
 
         -- it is no request
-        refuses : (cause : Cause) (new : Flight R) → N.no_request frame ≡ Some (why_of cause) → new ≡ cut_flight f.requests (why_of cause f.requests) f → (t : State) × StepOrNoMemory N s (event.Take frame) (reply.Take (Ok tt)) t × Stands N runs new t
-        refuses cause new is new_is =
-            let n : ℕ = length s.requests in
-            let t : State = cut_at n (why_of cause n) s in
+        refuses : (cause : Cause) (new : Flight R) (n m : ℕ) → N.no_request frame ≡ Some (why_of cause) → new ≡ cut_flight f.requests (why_of cause f.requests) f → m ≡ n → (t : State) × Reaches N s (event.Take frame) (reply.Take (Ok tt)) n m t × Stands N runs new t
+        refuses cause new n m is new_is none =
+            let k : ℕ = length s.requests in
+            let t : State = cut_at k (why_of cause k) s in
             let step : answer_to N s (event.Take frame) ≡ (reply.Take (Ok tt), t) = takes ∙ ap (λ x. (reply.Take (Ok tt), joined x frame s)) is in
-            let cut : Stands N runs (cut_flight f.requests (why_of cause n) f) t = stands_cut N runs f s h f.requests n (why_of cause n) (λ none. (whole.0, omega (arith, whole.1.there))) in
-            let same : cut_flight f.requests (why_of cause n) f ≡ new = ap (λ k. cut_flight f.requests (why_of cause k) f) (sym whole.0) ∙ sym new_is in
+            let cut : Stands N runs (cut_flight f.requests (why_of cause k) f) t = stands_cut N runs f s h f.requests k (why_of cause k) (λ unhalted. (whole.0, omega (arith, whole.1.there))) in
+            let same : cut_flight f.requests (why_of cause k) f ≡ new = ap (λ i. cut_flight f.requests (why_of cause i) f) (sym whole.0) ∙ sym new_is in
             let stands : Stands N runs new t = subst (λ x. Stands N runs x t) same cut in
-            (t, steps N s t (event.Take frame) (reply.Take (Ok tt)) step stands.rest, stands)
+            (t, reaches_rest N s (event.Take frame) (reply.Take (Ok tt)) n m t step stands.rest none refl, stands)
 
         -- it joins the others
-        module _ (mid new : Flight R) (join : Joins M runs frame f mid) (counts : Counts M runs frame f mid new) where
+        module _ (mid new : Flight R) (n m : ℕ) (join : Joins M runs frame f mid) (counts : Counts M runs frame f mid new n m) where
           abbrev r : Request
           r = record { frame = frame; given = [] }
 
@@ -178,7 +177,7 @@ module _ {R : Type 0} (M : Meaning) (runs : R → List ℕ → List Outside → 
             free_is = h.free no_halt no_cut ∙ (sym (free_joined N s r) ∙ ap (λ n. free_before N u n) (sym whole.1.there));
           }
 
-          joins : (t : State) × StepOrNoMemory N s (event.Take frame) (reply.Take (Ok tt)) t × Stands N runs new t
+          joins : (t : State) × Reaches N s (event.Take frame) (reply.Take (Ok tt)) n m t × Stands N runs new t
           joins =
               let small : length u.requests < 2 ^ 64 = omega (arith, long, whole.0, counts.small) in
               let done = counts.settles f.limit u small joined_carries quiet in
@@ -202,19 +201,19 @@ module _ {R : Type 0} (M : Meaning) (runs : R → List ℕ → List Outside → 
                 whole = λ none. (omega (arith, whole.0, settled.counts.count, long), carries);
                 free = λ none. settled.free;
               } in
-              (t, steps_settling N s u t (event.Take frame) (reply.Take (Ok tt)) step settled.settles, subst (λ x. Stands N runs x t) (sym counts.new_is) stands)
+              (t, record { from = u; step = step; settles = settled.settles; grows = grows_trans N n (n + N.work frame []) m s u t (grows_joined N n s frame) done.2 }, subst (λ x. Stands N runs x t) (sym counts.new_is) stands)
 
-        take_by : (cause : Option Cause) (new : Flight R) → FlightTakesBy M runs cause frame f new → (t : State) × StepOrNoMemory N s (event.Take frame) (reply.Take (Ok tt)) t × Stands N runs new t
-        take_by (Some cause) new is = refuses cause new is.0 is.1
-        take_by None new is = joins is.0 new is.1 is.2
+        take_by : (cause : Option Cause) (new : Flight R) (n m : ℕ) → FlightTakesBy M runs cause frame f new n m → (t : State) × Reaches N s (event.Take frame) (reply.Take (Ok tt)) n m t × Stands N runs new t
+        take_by (Some cause) new n m is = refuses cause new n m is.0 is.1 is.2
+        take_by None new n m is = joins is.0 new n m is.1 is.2
 
-        pub take_ok : (new : Flight R) → FlightTakes M runs frame f new → (t : State) × StepOrNoMemory N s (event.Take frame) (reply.Take (Ok tt)) t × Stands N runs new t
-        take_ok new is = take_by is.0 new is.1
+        pub take_ok : (new : Flight R) (n m : ℕ) → FlightTakes M runs frame f new n m → (t : State) × Reaches N s (event.Take frame) (reply.Take (Ok tt)) n m t × Stands N runs new t
+        take_ok new n m is = take_by is.0 new n m is.1
 
 module _ {R : Type 0} (M : Meaning) (runs : R → List ℕ → List Outside → Type 0) (f : Flight R) (frame : List ℕ) where
-  limit_by : (cause : Option Cause) (new : Flight R) → FlightTakesBy M runs cause frame f new → new.limit ≡ f.limit
-  limit_by (Some cause) new is = ap (λ x. x.limit) is.1
-  limit_by None new is = ap (λ x. x.limit) is.2.new_is ∙ (is.2.outside.limit_is ∙ is.1.rest.limit_is)
+  limit_by : (cause : Option Cause) (new : Flight R) (n m : ℕ) → FlightTakesBy M runs cause frame f new n m → new.limit ≡ f.limit
+  limit_by (Some cause) new n m is = ap (λ x. x.limit) is.1
+  limit_by None new n m is = ap (λ x. x.limit) is.2.new_is ∙ (is.2.outside.limit_is ∙ is.1.rest.limit_is)
 
-  pub limit_taken : (new : Flight R) → FlightTakes M runs frame f new → new.limit ≡ f.limit
-  limit_taken new is = limit_by is.0 new is.1
+  pub limit_taken : (new : Flight R) (n m : ℕ) → FlightTakes M runs frame f new n m → new.limit ≡ f.limit
+  limit_taken new n m is = limit_by is.0 new n m is.1

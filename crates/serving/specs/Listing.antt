@@ -4,9 +4,10 @@ use Rattle.kp_edge.specs.declared.end.End.{End}
 use Rattle.conn_rules.specs.declared.causes.Causes.{Causes}
 use Rattle.conn_rules.specs.Causes.{below}
 use Rattle.conn_rules.specs.Meaning.{Meaning}
-use Rattle.conn_rules.specs.State.{Outside, NoResponse, Request, ListedSend, State, held, upstream_frame}
+use Rattle.conn_rules.specs.State.{Outside, NoResponse, ListedSend, State, held, upstream_frame}
 use Rattle.conn_rules.specs.Settling.{is_listed, next_act, Settles}
 use Rattle.conn_rules.specs.Sweep.{IsQuietBefore, free_before}
+use Rattle.conn_rules.specs.Work.{TakesGrowth}
 use Rattle.correlation.specs.WindowOf.{window_of}
 use Rattle.correlation.specs.Windows.{Window, with_listed}
 use Rattle.correlation.specs.IsWindow.{owner_of, IsWindow}
@@ -15,6 +16,7 @@ use Rattle.serving.specs.declared.message.Message.{Message}
 use Rattle.serving.specs.declared.slot.Slot.{Slot}
 use Rattle.serving.specs.declared.slot.Stage.TheVariants as stage
 use Rattle.serving.specs.Flights.{first_of, OnlySlots}
+use Rattle.serving.specs.Services.{CountsOn}
 use Rattle.serving.specs.Slots.{waiting_run, may_list, has_main, is_picked, pending, GoesOn, Keeps, IsPassed, IsUntouched}
 
 -- the send that a message of request k is, for its ask number i
@@ -106,6 +108,11 @@ module _ {R : Type 0} (M : Meaning) (runs : R → List ℕ → List Outside → 
   ListsNext k free old w false new v = (new ≡ old) × (v ≡ w) × (may_list free old ≡ false)
   ListsNext k free old w true new v = ListsSlot k free old w new v
 
+  -- The steps of a listing are those of the run, where it goes on at once.
+  abbrev pub CountsNext : Bool → Slot R → (before after : ℕ) → Type 0
+  CountsNext false old n m = m ≡ n
+  CountsNext true old n m = (message : Message) (run : R) → old.stage ≡ stage.Unlisted message run → MatchBool message.responds (m ≡ n) (CountsOn M runs run NoResponse n m)
+
   -- the sweep stands at request k
   pub record IsSweptTo (k : ℕ) (free : Bool) (slot : Slot R) (w : Window) (s : State) : Type 0 where
     pub quiet : IsQuietBefore M s k
@@ -113,8 +120,8 @@ module _ {R : Type 0} (M : Meaning) (runs : R → List ℕ → List Outside → 
     pub kept : Keeps M runs s k slot
     pub window : IsWindow s w
 
-  abbrev pub Advances : ℕ → Bool → Slot R → Window → Slot R → Window → Type 0
-  Advances k free old w new v = (s : State) → below s.causes.cut k ≡ true → IsSweptTo k free old w s → (t : State) × GoesTo M k s t × (t.causes ≡ s.causes) × IsSweptTo k free new v t
+  abbrev pub Advances : ℕ → Bool → Slot R → Window → Slot R → Window → (before after : ℕ) → Type 0
+  Advances k free old w new v n m = (s : State) → below s.causes.cut k ≡ true → IsSweptTo k free old w s → (t : State) × GoesTo M k s t × (t.causes ≡ s.causes) × IsSweptTo k free new v t × TakesGrowth M n m s t
 
   pub record IsSettledAt (k : ℕ) (s : State) (causes : Causes) (slot : Slot R) (w : Window) (past : Option Bool) (t : State) : Type 0 where
     pub goes : GoesTo M k s t
@@ -123,8 +130,8 @@ module _ {R : Type 0} (M : Meaning) (runs : R → List ℕ → List Outside → 
     pub window : IsWindow t w
     pub past_is : IsSweptPast M t k past
 
-  abbrev pub SettlesAt : ℕ → Bool → Causes → Slot R → Window → Option Bool → Causes → Slot R → Window → Type 0
-  SettlesAt k free causes old w past causes' new v = (s : State) → causes ≡ s.causes → IsSweptTo k free old w s → (t : State) × IsSettledAt k s causes' new v past t
+  abbrev pub SettlesAt : ℕ → Bool → Causes → Slot R → Window → Option Bool → Causes → Slot R → Window → (before after : ℕ) → Type 0
+  SettlesAt k free causes old w past causes' new v n m = (s : State) → causes ≡ s.causes → IsSweptTo k free old w s → (t : State) × IsSettledAt k s causes' new v past t × TakesGrowth M n m s t
 
   -- What is kept is that of a connection that stands so, settled or not.
   pub record Carries (f : Flight R) (s : State) : Type 0 where
@@ -143,12 +150,12 @@ module _ {R : Type 0} (M : Meaning) (runs : R → List ℕ → List Outside → 
     pub counts : SameCounts s t
     pub free : TellsFree M f t
 
-  abbrev pub FlightSettles : Flight R → Flight R → Type 0
-  FlightSettles old new = (s : State) → length s.requests < 2 ^ 64 → Carries old s → (t : State) × IsSettled new s t
+  abbrev pub FlightSettles : Flight R → Flight R → (before after : ℕ) → Type 0
+  FlightSettles old new n m = (s : State) → length s.requests < 2 ^ 64 → Carries old s → (t : State) × IsSettled new s t × TakesGrowth M n m s t
 
   -- the same, where that holds of those before this place
-  abbrev pub FlightSettlesFrom : ℕ → Bool → Flight R → Flight R → Type 0
-  FlightSettlesFrom from free old new = (s : State) → length s.requests < 2 ^ 64 → Carries old s → AreQuiet M from free s → (t : State) × IsSettled new s t
+  abbrev pub FlightSettlesFrom : ℕ → Bool → Flight R → Flight R → (before after : ℕ) → Type 0
+  FlightSettlesFrom from free old new n m = (s : State) → length s.requests < 2 ^ 64 → Carries old s → AreQuiet M from free s → (t : State) × IsSettled new s t × TakesGrowth M n m s t
 
   -- the same, with the sweep at the slot at this place
   pub record IsSweptUpTo (place : ℕ) (free : Bool) (f : Flight R) (s t : State) : Type 0 where
@@ -158,8 +165,8 @@ module _ {R : Type 0} (M : Meaning) (runs : R → List ℕ → List Outside → 
     pub quiet : IsQuietBefore M t (t.passed + place)
     pub free_is : free ≡ free_before M t (t.passed + place)
 
-  abbrev pub SettlesUpTo : (from : ℕ) → (first : Bool) → (place : ℕ) → (free : Bool) → Flight R → Flight R → Type 0
-  SettlesUpTo from first place free old new = (s : State) → length s.requests < 2 ^ 64 → Carries old s → AreQuiet M from first s → (t : State) × IsSweptUpTo place free new s t
+  abbrev pub SettlesUpTo : (from : ℕ) → (first : Bool) → (place : ℕ) → (free : Bool) → Flight R → Flight R → (before after : ℕ) → Type 0
+  SettlesUpTo from first place free old new n m = (s : State) → length s.requests < 2 ^ 64 → Carries old s → AreQuiet M from first s → (t : State) × IsSweptUpTo place free new s t × TakesGrowth M n m s t
 
   -- the slot at this place was given this
   pub record GivesAt (place : ℕ) (x : Outside) (old new : Flight R) : Type 0 where
@@ -171,3 +178,7 @@ module _ {R : Type 0} (M : Meaning) (runs : R → List ℕ → List Outside → 
     pub after : Slot R
     pub goes : GoesOn M runs run x slot after
     pub slots : new.slots.items ≡ slice_set old.slots.items place after
+
+  -- and these are its run's steps
+  abbrev pub CountsAt : (place : ℕ) → Outside → Flight R → (before after : ℕ) → Type 0
+  CountsAt place x old n m = (slot : Slot R) (run : R) → slice_get old.slots.items place ≡ Some slot → waiting_run slot.stage ≡ Some run → CountsOn M runs run x n m

@@ -1,5 +1,5 @@
 -- What a service answers is what its meaning says.
-use Rattle.std.specs.Prelude.{◌≡◌, ℕ, suc, Bool, true, false, List, [], Option, Some, None}
+use Rattle.std.specs.Prelude.{◌≡◌, ℕ, suc, ◌+◌, Bool, true, false, List, [], ◌∷◌, ◌++◌, Option, Some, None}
 use Rattle.kp_edge.specs.declared.end.End.{End}
 use Rattle.conn_rules.specs.Meaning.{Meaning, ToBroker, Hold, Status, Waits, Done, Fails}
 use Rattle.conn_rules.specs.State.{Outside, Body, NoResponse, Verdict}
@@ -45,6 +45,15 @@ module _ {R : Type 0} (M : Meaning) (runs : R → List ℕ → List Outside → 
   abbrev pub Begins : List ℕ → Begun R → Type 0
   Begins frame (begun.Refused cause) = M.no_request frame ≡ Some (why_of cause)
   Begins frame (begun.Runs silent p) = (M.no_request frame ≡ None) × (M.silent frame ≡ silent) × IsProgress frame [] p
+
+  -- a run that goes on with this takes the steps by which the work of its request grows
+  abbrev pub CountsOn : R → Outside → (before after : ℕ) → Type 0
+  CountsOn run x before after = (frame : List ℕ) (given : List Outside) → runs run frame given → after + M.work frame given ≡ before + M.work frame (given ++ x ∷ [])
+
+-- how many steps a client's frame takes: a request those of its work so far, and any other none
+abbrev pub work_begun : {R : Type 0} → Meaning → List ℕ → Begun R → ℕ
+work_begun M frame (begun.Refused cause) = 0
+work_begun M frame (begun.Runs silent p) = M.work frame []
 
 -- how often a request that has come so far may still wait, by how often its run may wait again
 abbrev pub progress_left : {R : Type 0} → (R → ℕ) → Progress R → ℕ

@@ -20,7 +20,7 @@ use Rattle.serving.specs.Causes.{why_of}
 use Rattle.serving.specs.Flights.{first_of, hold_at, OnlySlots}
 use Rattle.serving.specs.Services.{IsProgress, cause_function}
 use Rattle.serving.specs.Slots.{fresh_slot, rests_in}
-use Rattle.serving.specs.Listing.{SameOutside, Carries, TellsFree, FlightSettles, FlightSettlesFrom, GivesAt}
+use Rattle.serving.specs.Listing.{SameOutside, Carries, TellsFree, FlightSettles, FlightSettlesFrom, GivesAt, CountsAt}
 
 -- with other causes
 abbrev pub cut_flight : {R : Type 0} → ℕ → End → Flight R → Flight R
@@ -87,39 +87,42 @@ module _ {R : Type 0} (M : Meaning) (runs : R → List ℕ → List Outside → 
     pub rest : OnlySlots old mid
     pub slots : mid.slots.items ≡ old.slots.items ++ fresh_slot (length frame) silent progress ∷ []
 
-  -- the frame is counted
-  pub record Counts (frame : List ℕ) (old mid new : Flight R) : Type 0 where
+  -- The frame is counted. Its request's work is so many steps, and settling takes the others.
+  pub record Counts (frame : List ℕ) (old mid new : Flight R) (before after : ℕ) : Type 0 where
     pub small : old.requests + 1 < 2 ^ 64
     pub settled : Flight R
-    pub settles : (limit : ℕ) → FlightSettlesFrom (limited limit M) runs (length old.slots.items) old.free mid settled
+    pub settles : (limit : ℕ) → FlightSettlesFrom (limited limit M) runs (length old.slots.items) old.free mid settled (before + M.work frame []) after
     pub outside : SameOutside mid settled
     pub new_is : new ≡ record settled { requests = old.requests + 1; count = old.count + 1; held = old.held + length frame }
 
   -- A frame comes from the client: it is no request, which cuts in its place, or it joins the others.
-  abbrev pub FlightTakesBy : Option Cause → List ℕ → Flight R → Flight R → Type 0
-  FlightTakesBy (Some cause) frame old new = (M.no_request frame ≡ Some (why_of cause)) × (new ≡ cut_flight old.requests (why_of cause old.requests) old)
-  FlightTakesBy None frame old new = (mid : Flight R) × Joins frame old mid × Counts frame old mid new
+  abbrev pub FlightTakesBy : Option Cause → List ℕ → Flight R → Flight R → (before after : ℕ) → Type 0
+  FlightTakesBy (Some cause) frame old new n m = (M.no_request frame ≡ Some (why_of cause)) × (new ≡ cut_flight old.requests (why_of cause old.requests) old) × (m ≡ n)
+  FlightTakesBy None frame old new n m = (mid : Flight R) × Joins frame old mid × Counts frame old mid new n m
 
-  abbrev pub FlightTakes : List ℕ → Flight R → Flight R → Type 0
-  FlightTakes frame old new = (cause : Option Cause) × FlightTakesBy cause frame old new
+  abbrev pub FlightTakes : List ℕ → Flight R → Flight R → (before after : ℕ) → Type 0
+  FlightTakes frame old new n m = (cause : Option Cause) × FlightTakesBy cause frame old new n m
 
   -- request k is given something, and all settle
-  pub record FlightGives (k : ℕ) (x : Outside) (old new : Flight R) : Type 0 where
+  pub record FlightGives (k : ℕ) (x : Outside) (old new : Flight R) (before after : ℕ) : Type 0 where
     pub small : old.requests < 2 ^ 64
     pub mid : Flight R
     pub in_flight : first_of old ≤ k
     pub gives : GivesAt M runs (k - first_of old) x old mid
-    pub settles : MatchBool (rests_in (slice_get mid.slots.items (k - first_of old))) (new ≡ mid) ((limit : ℕ) → FlightSettles (limited limit M) runs mid new)
+    -- how many steps there were when it was given
+    pub between : ℕ
+    pub counts : CountsAt M runs (k - first_of old) x old before between
+    pub settles : MatchBool (rests_in (slice_get mid.slots.items (k - first_of old))) ((new ≡ mid) × (after ≡ between)) ((limit : ℕ) → FlightSettles (limited limit M) runs mid new between after)
 
   -- the owner of a response gets its body, if that can be read
-  abbrev pub GivesBodyBy : Option Cause → Owner → List ℕ → Flight R → Flight R → Type 0
-  GivesBodyBy (Some cause) owner body old new = new ≡ cut_flight owner.request (why_of cause owner.request) old
-  GivesBodyBy None owner body old new = FlightGives owner.request (Body body) old new
+  abbrev pub GivesBodyBy : Option Cause → Owner → List ℕ → Flight R → Flight R → (before after : ℕ) → Type 0
+  GivesBodyBy (Some cause) owner body old new n m = (new ≡ cut_flight owner.request (why_of cause owner.request) old) × (m ≡ n)
+  GivesBodyBy None owner body old new n m = FlightGives owner.request (Body body) old new n m
 
   -- where it stands below the cut
-  abbrev pub FlightGivesBodyBy : Bool → Owner → List ℕ → Flight R → Flight R → Type 0
-  FlightGivesBodyBy false owner frame old new = new ≡ old
-  FlightGivesBodyBy true owner frame old new = (cause : Option Cause) × (cause_function cause ≡ M.unreadable owner.before (drop 4 frame)) × GivesBodyBy cause owner (drop 4 frame) old new
+  abbrev pub FlightGivesBodyBy : Bool → Owner → List ℕ → Flight R → Flight R → (before after : ℕ) → Type 0
+  FlightGivesBodyBy false owner frame old new n m = (new ≡ old) × (m ≡ n)
+  FlightGivesBodyBy true owner frame old new n m = (cause : Option Cause) × (cause_function cause ≡ M.unreadable owner.before (drop 4 frame)) × GivesBodyBy cause owner (drop 4 frame) old new n m
 
-  abbrev pub FlightGivesBody : Owner → List ℕ → Flight R → Flight R → Type 0
-  FlightGivesBody owner frame old new = FlightGivesBodyBy (below old.causes.cut owner.request) owner frame old new
+  abbrev pub FlightGivesBody : Owner → List ℕ → Flight R → Flight R → (before after : ℕ) → Type 0
+  FlightGivesBody owner frame old new n m = FlightGivesBodyBy (below old.causes.cut owner.request) owner frame old new n m

@@ -1,6 +1,6 @@
 -- What requests mean to the service of the tests. The first three bytes of a frame are the codes of its asks, in order.
 -- The fourth byte tells whether the request is silent. Behind the correlation id stands the body.
-use Rattle.std.specs.Prelude.{ℕ, ◌-◌, ◌==◌, nat_lt, Bool, true, if◌then◌else◌, false, List, [], ◌++◌, length, take, drop, get_or, Some, None, pos}
+use Rattle.std.specs.Prelude.{ℕ, ◌+◌, ◌-◌, ◌==◌, nat_lt, Bool, true, if◌then◌else◌, false, List, [], ◌++◌, length, take, drop, get_or, Some, None, pos}
 use Rattle.kp_edge.specs.declared.end.End.TheVariants as end
 use Rattle.framing.specs.Frames.{sized}
 use Rattle.framing.specs.CorrelationIds.{request_id}
@@ -46,5 +46,6 @@ trial =
       no_request = λ frame. if get_or frame 0 0 == 120 then Some (λ k. end.BadHead k) else None;
       silent = λ frame. get_or frame 3 0 == 45;
       status = trial_status;
+      work = λ frame given. 1 + length given;
       unreadable = λ before body. if get_or body 0 0 == 33 then Some (λ k. end.BrokerBadBody k (pos 7) (pos 2)) else None;
     }

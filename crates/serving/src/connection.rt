@@ -52,7 +52,7 @@ impl<S: Service> Serving<S> {
     fn accept<L>(&mut self, frame: &Bytes, steps: &mut Steps<L>) -> Result<(), NoMemory>
         requires { 8 ≤ length frame.now }
         ensures service { self.new.service ≡ self.old.service }
-        ensures takes { OnOk result (FlightTakes (S.meaning self.old.service) (S.stands self.old.service) frame.now self.old.flight self.new.flight) }
+        ensures takes { OnOk result (FlightTakes (S.meaning self.old.service) (S.stands self.old.service) frame.now self.old.flight self.new.flight steps.old steps.new) }
         ensures outside { OnErr result (SameOutside self.old.flight self.new.flight) }
     {
         let flight = &mut self.flight;
@@ -91,7 +91,7 @@ impl<S: Service> Serving<S> {
     ) -> Result<(), NoMemory>
         requires { 4 ≤ length frame.now }
         ensures service { self.new.service ≡ self.old.service }
-        ensures gives { OnOk result (FlightGivesBody (S.meaning self.old.service) (S.stands self.old.service) owner frame.now self.old.flight self.new.flight) }
+        ensures gives { OnOk result (FlightGivesBody (S.meaning self.old.service) (S.stands self.old.service) owner frame.now self.old.flight self.new.flight steps.old steps.new) }
         ensures outside { SameOutside self.old.flight self.new.flight }
         ensures wanting { OnErr result (below self.old.flight.causes.cut owner.request ≡ true) }
     {
@@ -112,7 +112,7 @@ impl<S: Service> Serving<S> {
     /// The request is given what it waits for, and all settle that it leaves something to do.
     fn give<L>(&mut self, request: u64, given: Given, steps: &mut Steps<L>) -> Result<(), NoMemory>
         ensures service { self.new.service ≡ self.old.service }
-        ensures gives { OnOk result (FlightGives (S.meaning self.old.service) (S.stands self.old.service) request (outside_of given) self.old.flight self.new.flight) }
+        ensures gives { OnOk result (FlightGives (S.meaning self.old.service) (S.stands self.old.service) request (outside_of given) self.old.flight self.new.flight steps.old steps.new) }
         ensures outside { SameOutside self.old.flight self.new.flight }
     {
         // a request that is no more in flight is never given anything

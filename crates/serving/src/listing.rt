@@ -6,7 +6,7 @@ ghost use Rattle.conn_rules.specs.State.{Outside};
 ghost use Rattle.correlation.specs.WindowOf.{window_of};
 ghost use Rattle.serving.specs.Services.{outside_of};
 ghost use Rattle.serving.specs.Slots.{may_list, slot_left};
-ghost use Rattle.serving.specs.Listing.{window_with, ListsNext, Advances, SettlesAt, FlightSettlesFrom, SameOutside, GivesAt};
+ghost use Rattle.serving.specs.Listing.{window_with, ListsNext, CountsNext, Advances, SettlesAt, FlightSettlesFrom, SameOutside, GivesAt, CountsAt};
 
 use crate::flight::Flight;
 use crate::frame::WholeFrame;
@@ -47,6 +47,7 @@ fn list_next<S: Service, L>(
     steps: &mut Steps<L>,
 ) -> Result<bool, NoMemory>
     ensures lists { IfOk result (λ listed. ListsNext (S.meaning service.now) (S.stands service.now) request free slot.old (window_of sends.old) listed slot.new (window_of sends.new)) }
+    ensures counted { IfOk result (λ listed. CountsNext (S.meaning service.now) (S.stands service.now) listed slot.old steps.old steps.new) }
     ensures fewer { result ≡ Ok true → slot_left (S.left service.now) slot.new < slot_left (S.left service.now) slot.old }
 {
     let Some((message, run)) = slot.unlisted(free) else {
@@ -72,7 +73,7 @@ fn list_all<S: Service, L>(
     slot: &mut Slot<S::Run>,
     steps: &mut Steps<L>,
 ) -> Result<(), NoMemory>
-    ensures advances { OnOk result ((limit : ℕ) → Advances (limited limit (S.meaning service.now)) (S.stands service.now) request free slot.old (window_of sends.old) slot.new (window_of sends.new)) }
+    ensures advances { OnOk result ((limit : ℕ) → Advances (limited limit (S.meaning service.now)) (S.stands service.now) request free slot.old (window_of sends.old) slot.new (window_of sends.new) steps.old steps.new) }
     ensures done { OnOk result (may_list free slot.new ≡ false) }
 {
     'asks: while list_next(service, alloc, sends, request, free, slot, steps)? {}
@@ -91,7 +92,7 @@ fn settle_at<S: Service, L>(
     slot: &mut Slot<S::Run>,
     steps: &mut Steps<L>,
 ) -> Result<Option<bool>, NoMemory>
-    ensures settles { IfOk result (λ free_behind. (limit : ℕ) → SettlesAt (limited limit (S.meaning service.now)) (S.stands service.now) request free causes.old slot.old (window_of sends.old) free_behind causes.new slot.new (window_of sends.new)) }
+    ensures settles { IfOk result (λ free_behind. (limit : ℕ) → SettlesAt (limited limit (S.meaning service.now)) (S.stands service.now) request free causes.old slot.old (window_of sends.old) free_behind causes.new slot.new (window_of sends.new) steps.old steps.new) }
     ensures halt { causes.new.halt ≡ causes.old.halt }
     ensures over { causes.new.over ≡ causes.old.over }
 {
@@ -116,7 +117,7 @@ pub(crate) fn settle<S: Service, L>(
     free: bool,
     steps: &mut Steps<L>,
 ) -> Result<(), NoMemory>
-    ensures settles { OnOk result ((limit : ℕ) → FlightSettlesFrom (limited limit (S.meaning service.now)) (S.stands service.now) from free flight.old flight.new) }
+    ensures settles { OnOk result ((limit : ℕ) → FlightSettlesFrom (limited limit (S.meaning service.now)) (S.stands service.now) from free flight.old flight.new steps.old steps.new) }
     ensures outside { SameOutside flight.old flight.new }
 {
     let first = flight.first();
@@ -146,6 +147,7 @@ pub(crate) fn give<S: Service, L>(
     steps: &mut Steps<L>,
 ) -> Result<(), NoMemory>
     ensures gives { OnOk result (GivesAt (S.meaning service.now) (S.stands service.now) place (outside_of given) flight.old flight.new) }
+    ensures counted { OnOk result (CountsAt (S.meaning service.now) (S.stands service.now) place (outside_of given) flight.old steps.old steps.new) }
     ensures outside { SameOutside flight.old flight.new }
 {
     // a slot that isn't there, or that waits for nothing, is never given anything

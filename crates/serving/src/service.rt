@@ -1,7 +1,7 @@
-ghost use Rattle.std.specs.Prelude.{◌≡◌, ◌≤◌, ◌++◌, ◌∷◌, [], ℕ, List, length, IfOk};
+ghost use Rattle.std.specs.Prelude.{◌≡◌, ◌≤◌, ◌+◌, ◌++◌, ◌∷◌, [], ℕ, List, length, IfOk, OnOk};
 ghost use Rattle.conn_rules.specs.Meaning.{Meaning};
 ghost use Rattle.conn_rules.specs.State.{Outside};
-ghost use Rattle.serving.specs.Services.{Begins, IsProgress, outside_of, cause_function, progress_left};
+ghost use Rattle.serving.specs.Services.{Begins, IsProgress, CountsOn, work_begun, outside_of, cause_function, progress_left};
 
 use crate::cause::Cause;
 use crate::given::Given;
@@ -9,7 +9,8 @@ use crate::progress::{Begun, Progress};
 use bytes::Bytes;
 use kp_edge::{NoMemory, Steps};
 
-/// What requests mean, as code. A request is begun once, and goes on each time that it is given what it waits for.
+/// What requests mean, as code. A request is begun once, and goes on each time that it is given what it waits for. `begin`
+/// and `go_on` count in `steps` the work that its meaning says of it.
 pub trait Service: Drop {
     /// A request that waits.
     type Run: Drop;
@@ -26,7 +27,8 @@ pub trait Service: Drop {
     /// A client's frame, without its size.
     fn begin<L>(&self, frame: &Bytes, steps: &mut Steps<L>) -> Result<Begun<Self::Run>, NoMemory>
         requires { 8 ≤ length frame.now }
-        ensures { IfOk result (λ begun. Begins (meaning self.now) (stands self.now) frame.now begun) };
+        ensures right { IfOk result (λ begun. Begins (meaning self.now) (stands self.now) frame.now begun) }
+        ensures counted { IfOk result (λ begun. steps.new ≡ steps.old + work_begun (meaning self.now) frame.now begun) };
 
     /// The request is given what it waited for.
     fn go_on<L>(
@@ -36,6 +38,7 @@ pub trait Service: Drop {
         steps: &mut Steps<L>,
     ) -> Result<Progress<Self::Run>, NoMemory>
         ensures right { IfOk result (λ progress. (frame : List ℕ) (before : List Outside) → stands self.now run frame before → IsProgress (meaning self.now) (stands self.now) frame (before ++ outside_of given ∷ []) progress) }
+        ensures counted { OnOk result (CountsOn (meaning self.now) (stands self.now) run (outside_of given) steps.old steps.new) }
         ensures fewer { IfOk result (λ progress. progress_left (left self.now) progress ≤ left self.now run) };
 
     /// Why the body of a response can't be read, by the key and the version of its request.

@@ -1,6 +1,6 @@
 // What is kept of a request in flight.
 ghost use Rattle.std.specs.Prelude.{◌≡◌, ◌≤◌, IfSome, IsNone, OnOk, true, false};
-ghost use Rattle.serving.specs.Services.{outside_of};
+ghost use Rattle.serving.specs.Services.{CountsOn, outside_of};
 ghost use Rattle.serving.specs.Slots.{fresh_slot, stage_of, holds_none_back, rests, may_list, GoesOn, waiting_run, slot_left, PicksHold};
 
 use crate::cause::Cause;
@@ -161,6 +161,7 @@ pub(crate) fn go_on<S: Service, L>(
     steps: &mut Steps<L>,
 ) -> Result<(), NoMemory>
     ensures right { OnOk result (GoesOn (S.meaning service.now) (S.stands service.now) run (outside_of given) slot.old slot.new) }
+    ensures counted { OnOk result (CountsOn (S.meaning service.now) (S.stands service.now) run (outside_of given) steps.old steps.new) }
     ensures fewer { OnOk result (slot_left (S.left service.now) slot.new ≤ S.left service.now run) }
 {
     let Some(count) = slot.given.checked_add(1) else {

@@ -39,11 +39,12 @@ impl Service for Trial {
 
     ghost left = { λ _ run. 3 - run.asks };
 
-    fn begin<L>(&self, frame: &Bytes, _steps: &mut Steps<L>) -> Result<Begun<TrialRun>, NoMemory> {
+    fn begin<L>(&self, frame: &Bytes, steps: &mut Steps<L>) -> Result<Begun<TrialRun>, NoMemory> {
         if is_first(frame.as_slice(), b'x') {
             return Ok(Begun::Refused(Cause::BadHead));
         }
         let silent = is_silent(frame.as_slice());
+        steps.tick();
         let progress = first_ask(self.alloc, frame)?;
         Ok(Begun::Runs { silent, progress })
     }
@@ -52,8 +53,9 @@ impl Service for Trial {
         &self,
         run: TrialRun,
         given: Given,
-        _steps: &mut Steps<L>,
+        steps: &mut Steps<L>,
     ) -> Result<Progress<TrialRun>, NoMemory> {
+        steps.tick();
         match given {
             Given::Body(body) => ask_on(self.alloc, run, body.as_slice()),
             Given::NoResponse => ask_on(self.alloc, run, &[]),

@@ -6,7 +6,7 @@ use Rattle.serving.specs.Listing.{Advances}
 use Rattle.serving.proofs.listing.list_all.Given as goal
 
 abbrev pub invariant-asks : goal.invariant-asks
-invariant-asks g l = (limit : ℕ) → Advances (limited limit (g.S.Service.meaning l.service)) (g.S.Service.stands l.service) l.request l.free l.initial.slot (window_of l.initial.sends) l.slot (window_of l.sends)
+invariant-asks g l = (limit : ℕ) → Advances (limited limit (g.S.Service.meaning l.service)) (g.S.Service.stands l.service) l.request l.free l.initial.slot (window_of l.initial.sends) l.slot (window_of l.sends) l.initial.steps l.steps
 
 abbrev pub decreases-asks : goal.decreases-asks
 decreases-asks g l = slot_left (g.S.Service.left l.service) l.slot

@@ -1,17 +1,19 @@
 use Rattle.conn_rules.specs.Room.{limited}
 use Rattle.serving.specs.Listing.{FlightSettlesFrom}
-use Rattle.std.proofs.Common.{subst, length, ◌≡◌, ◌∙◌, ap, sym, refl, Some, None, arith, ℕ, ◌+◌, ◌<◌, ◌^◌, ◌++◌, ◌∷◌, []}
-use Rattle.conn_rules.specs.Causes.{with_cut}
-use Rattle.serving.specs.Causes.{why_of}
+use Rattle.std.proofs.Common.{subst, length, ◌≡◌, ◌∙◌, ap, refl, Some, None, arith, ℕ, ◌+◌, ◌++◌, ◌∷◌, []}
 use Rattle.serving.specs.Slots.{fresh_slot}
 use Rattle.serving.proofs.connection.Serving.accept.Goals as goal
 
 pub returns-in-Refused-clause-takes : goal.returns-in-Refused-clause-takes
-returns-in-Refused-clause-takes g c = (Some c.in-Refused.cause, (rw c.in-Refused.is at c.in_ok-cause.ensures, rw (c.cut_at.ensures, c.at.ensures) refl))
+returns-in-Refused-clause-takes g c =
+    let none : c.begin.new.steps ≡ c.args.steps.now = omega (arith, rw c.in-Refused.is at c.in_ok-cause.ensures.counted) in
+    (Some c.in-Refused.cause, (rw c.in-Refused.is at c.in_ok-cause.ensures.right, rw (c.cut_at.ensures, c.at.ensures) refl, none))
 
 pub returns-clause-takes : goal.returns-clause-takes
 returns-clause-takes g c =
-    let begun = rw c.in-Runs.is at c.in_ok-cause.ensures in
+    let begun = rw c.in-Runs.is at c.in_ok-cause.ensures.right in
+    let M = g.S.Service.meaning c.args.self.now.service in
+    let counted : c.begin.new.steps ≡ c.args.steps.now + M.work c.args.frame.now [] = rw c.in-Runs.is at c.in_ok-cause.ensures.counted in
     let f = c.args.self.now.flight in (
       None,
       (
@@ -28,7 +30,7 @@ returns-clause-takes g c =
         record {
           small = c.in-Some-Some-Some.ensures.0;
           settled = c.settle.new.flight;
-          settles = subst (λ n. (limit : ℕ) → FlightSettlesFrom (limited limit (g.S.Service.meaning c.args.self.now.service)) (g.S.Service.stands c.args.self.now.service) n f.free (record f { slots = c.push_back.new.self }) c.settle.new.flight) (let e : c.len-last.result ≡ length f.slots.items = omega (arith, c.len-last.ensures) in e) c.in_ok-settle.ensures.settles;
+          settles = subst (λ n. (limit : ℕ) → FlightSettlesFrom (limited limit M) (g.S.Service.stands c.args.self.now.service) (length f.slots.items) f.free (record f { slots = c.push_back.new.self }) c.settle.new.flight n c.settle.new.steps) counted (subst (λ n. (limit : ℕ) → FlightSettlesFrom (limited limit M) (g.S.Service.stands c.args.self.now.service) n f.free (record f { slots = c.push_back.new.self }) c.settle.new.flight c.begin.new.steps c.settle.new.steps) (let e : c.len-last.result ≡ length f.slots.items = omega (arith, c.len-last.ensures) in e) c.in_ok-settle.ensures.settles);
           outside = c.in_ok-settle.ensures.outside;
           new_is = rw (c.in-Some-Some-Some.ensures.1, c.in-Some-Some-Some.ensures'.1, c.in-Some-Some-Some.ensures''.1, c.len-size.ensures.value) refl;
         },

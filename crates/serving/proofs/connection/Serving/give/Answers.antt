@@ -1,11 +1,10 @@
-use Rattle.std.proofs.Common.{rules, ◌≡◌, ◌∙◌, ap, sym, refl, subst, ℕ, ◌≤◌, ◌-◌, arith, Bool, true, false, Result, Ok, Err, slice_get}
+use Rattle.std.proofs.Common.{◌≡◌, ◌∙◌, ap, sym, refl, subst, ℕ, ◌-◌, arith, Bool, true, false, Result, Ok, Err, slice_get}
 use Rattle.std.specs.Prelude.{OnOk, MatchBool}
 use Rattle.conn_rules.specs.Room.{limited}
-use Rattle.conn_rules.specs.State.{Outside}
 use Rattle.serving.specs.Services.{outside_of}
 use Rattle.serving.specs.Flights.{first_of}
 use Rattle.serving.specs.Slots.{rests_in}
-use Rattle.serving.specs.Listing.{GivesAt, FlightSettles, FlightSettlesFrom}
+use Rattle.serving.specs.Listing.{GivesAt, CountsAt, FlightSettles}
 use Rattle.serving.proofs.Sweeping.{from_first}
 use Rattle.serving.proofs.connection.Serving.give.Goals as goal
 
@@ -32,7 +31,9 @@ returns-then-rests_at-clause-gives g c =
       mid = mid;
       in_flight = omega (arith, c.in-Some.ensures, c.first.ensures.first);
       gives = subst (λ n. GivesAt (g.S.Service.meaning c.args.self.now.service) (g.S.Service.stands c.args.self.now.service) n (outside_of c.args.given) f mid) place c.in_ok-give.ensures.gives;
-      settles = if_true (mid ≡ mid) ((limit : ℕ) → FlightSettles (limited limit (g.S.Service.meaning c.args.self.now.service)) (g.S.Service.stands c.args.self.now.service) mid mid) _ rest refl;
+      between = c.give.new.steps;
+      counts = subst (λ n. CountsAt (g.S.Service.meaning c.args.self.now.service) (g.S.Service.stands c.args.self.now.service) n (outside_of c.args.given) f c.args.steps.now c.give.new.steps) place c.in_ok-give.ensures.counted;
+      settles = if_true ((mid ≡ mid) × (c.give.new.steps ≡ c.give.new.steps)) ((limit : ℕ) → FlightSettles (limited limit (g.S.Service.meaning c.args.self.now.service)) (g.S.Service.stands c.args.self.now.service) mid mid c.give.new.steps c.give.new.steps) _ rest (refl, refl);
     }
 
 pub returns-clause-gives : goal.returns-clause-gives
@@ -46,5 +47,7 @@ returns-clause-gives g c =
       mid = mid;
       in_flight = omega (arith, c.in-Some.ensures, c.first.ensures.first);
       gives = subst (λ n. GivesAt (g.S.Service.meaning c.args.self.now.service) (g.S.Service.stands c.args.self.now.service) n (outside_of c.args.given) f mid) place c.in_ok-give.ensures.gives;
-      settles = if_false (c.settle.new.flight ≡ mid) ((limit : ℕ) → FlightSettles (limited limit (g.S.Service.meaning c.args.self.now.service)) (g.S.Service.stands c.args.self.now.service) mid c.settle.new.flight) _ rest (λ limit. from_first (limited limit (g.S.Service.meaning c.args.self.now.service)) (g.S.Service.stands c.args.self.now.service) mid c.settle.new.flight (settles limit));
+      between = c.give.new.steps;
+      counts = subst (λ n. CountsAt (g.S.Service.meaning c.args.self.now.service) (g.S.Service.stands c.args.self.now.service) n (outside_of c.args.given) f c.args.steps.now c.give.new.steps) place c.in_ok-give.ensures.counted;
+      settles = if_false ((c.settle.new.flight ≡ mid) × (c.settle.new.steps ≡ c.give.new.steps)) ((limit : ℕ) → FlightSettles (limited limit (g.S.Service.meaning c.args.self.now.service)) (g.S.Service.stands c.args.self.now.service) mid c.settle.new.flight c.give.new.steps c.settle.new.steps) _ rest (λ limit. from_first (limited limit (g.S.Service.meaning c.args.self.now.service)) (g.S.Service.stands c.args.self.now.service) mid c.settle.new.flight c.give.new.steps c.settle.new.steps (settles limit));
     }) c.settle.ensures.settles

@@ -1,0 +1,339 @@
+// `replay` over a cluster of a configuration.
+use super::*;
+
+// A cluster of one node, named `lab`. Other keys may stand behind it.
+const LAB: &str =
+    "version = 1\n[[cluster]]\nname = \"lab\"\nlisten = \"127.0.0.1\"\nadvertise = \"p\"\nbootstrap = \"b:9092\"\nnodes = [\"b:9092\"]\n";
+
+const PORTS: &str = "port = 19092\nfirst_node = 0\n";
+
+// The other keys of the cluster, and an exchange over it.
+struct Over {
+    keys: &'static str,
+    exchange: Exchange,
+}
+
+const CLUSTERS: &[Over] = &[
+    Over {
+        keys: "port = 19092\nfirst_node = 0\nfilters = [\"topic-deny:t\"]\n",
+        exchange: Exchange {
+            name: "topic-deny answers a Produce with acks 0, which is silent",
+            parts: &[
+                "
+                    client 000000250000000300000001ffffffff000000000064000000010001740000000100000000ffffffff -> ok
+                    send -> none
+                    emit -> later
+                    client-end -> ok
+                    emit -> over ended
+                ",
+            ],
+        },
+    },
+    Over {
+        keys: "port = 19092\nfirst_node = 0\nfilters = [\"topic-policy\"]\n",
+        exchange: Exchange {
+            name: "topic-policy holds for a verdict, and sends later requests behind it",
+            parts: &[
+                "
+                    client 000000230013000000000001ffff00000001000161000000010001000000000000000000000000 -> ok
+                    client 00000014000c000000000002ffff0001670000000100016d -> ok
+                    send -> none
+                    pick -> ticket 0 0 00000001000161
+                    pick -> none
+                    done 0 0 00 -> ok
+                    send -> to-broker 000000230013000000000000ffff00000001000161000000010001000000000000000000000000
+                    send -> to-broker 00000014000c000000000001ffff0001670000000100016d
+                    broker 0000000d00000000000000010001610000 -> ok
+                    broker 00000006000000010000 -> ok
+                    emit -> to-client 0000000d00000001000000010001610000
+                    emit -> to-client 00000006000000020000
+                    done 0 0 00 -> not-waiting
+                    client-end -> ok
+                    emit -> over ended
+                ",
+            ],
+        },
+    },
+    Over {
+        keys: "port = 19092\nfirst_node = 0\nfilters = [\"topic-exists\"]\n",
+        exchange: Exchange {
+            name: "topic-exists asks Metadata aside",
+            parts: &[
+                "
+                    client 000000340013000000000001ffff000000020001610000000100010000000000000000000162000000010001000000000000000000000000 -> ok
+                    send -> to-broker 000000150003000400000000ffff0000000200016100016200
+                    broker 0000002a000000000000000000000000ffffffffffff000000020003000161000000000000000001620000000000 -> ok
+                    send -> to-broker 000000230013000000000001ffff00000001000161000000010001000000000000000000000000
+                    broker 0000000d00000001000000010001610000 -> ok
+                    emit -> to-client 00000012000000010000000200016100000001620024
+                    client-end -> ok
+                    emit -> over ended
+                ",
+            ],
+        },
+    },
+    Over {
+        keys: "port = 19092\nfirst_node = 0\nfilters = [\"group-live\"]\n",
+        exchange: Exchange {
+            name: "group-live asks DescribeGroups aside",
+            parts: &[
+                "
+                    client 0000000a0010000000000001ffff -> ok
+                    client 00000014000c000000000002ffff0001670000000100016d -> ok
+                    send -> to-broker 0000000a0010000000000000ffff
+                    send -> to-broker 00000014000c000000000001ffff0001670000000100016d
+                    broker 00000024000000000000000000020001670008636f6e73756d65720001680008636f6e73756d6572 -> ok
+                    send -> to-broker 00000014000f000000000002ffff00000002000167000168
+                    broker 00000006000000010000 -> ok
+                    emit -> later
+                    broker 00000030000000020000000200000001670006537461626c65000000000000000000000001680004446561640000000000000000 -> ok
+                    emit -> to-client 00000017000000010000000000010001670008636f6e73756d6572
+                    emit -> to-client 00000006000000020000
+                    client-end -> ok
+                    emit -> over ended
+                ",
+            ],
+        },
+    },
+    Over {
+        keys: "first_node = 2147483000\nport = 65534\n",
+        exchange: Exchange {
+            name: "the last node has the last port",
+            parts: &[
+                "
+                    client 0000000d000a000000000001ffff000167 -> ok
+                    send -> to-broker 0000000d000a000000000000ffff000167
+                    broker 000000110000000000007ffffd7800016200002384 -> ok
+                    emit -> to-client 000000110000000100007ffffd780001700000ffff
+                    client-end -> ok
+                    emit -> over ended
+                ",
+            ],
+        },
+    },
+    Over {
+        keys: "first_node = 7\nport = 19092\n",
+        exchange: Exchange {
+            name: "one node behind the last is out of range",
+            parts: &[
+                "
+                    client 0000000d000a000000000001ffff000167 -> ok
+                    send -> to-broker 0000000d000a000000000000ffff000167
+                    broker 000000110000000000000000000800016200002384 -> ok
+                    emit -> over node-out-of-range request=0 node=8
+                ",
+            ],
+        },
+    },
+    Over {
+        keys: "first_node = 7\nport = 19092\n",
+        exchange: Exchange {
+            name: "one node before the first is out of range",
+            parts: &[
+                "
+                    client 0000000d000a000000000001ffff000167 -> ok
+                    send -> to-broker 0000000d000a000000000000ffff000167
+                    broker 000000110000000000000000000600016200002384 -> ok
+                    emit -> over node-out-of-range request=0 node=6
+                ",
+            ],
+        },
+    },
+    Over {
+        keys: "port = 19092\nfirst_node = 0\nfilters = [\"topic-exists\", \"api-block:3\"]\n",
+        exchange: Exchange {
+            name: "what is asked aside meets the filters nearer the broker",
+            parts: &[
+                "
+                    client 000000230013000000000001ffff00000001000161000000010001000000000000000000000000 -> ok
+                    send -> none
+                    emit -> over filter-shut request=0 filter=2 code=3
+                ",
+            ],
+        },
+    },
+    Over {
+        keys: "port = 19092\nfirst_node = 0\nfilters = [\"api-block:3\", \"topic-exists\"]\n",
+        exchange: Exchange {
+            name: "what is asked aside passes the filters nearer the client",
+            parts: &[
+                "
+                    client 000000230013000000000001ffff00000001000161000000010001000000000000000000000000 -> ok
+                    send -> to-broker 000000120003000400000000ffff0000000100016100
+                    broker 00000020000000000000000000000000ffffffffffff0000000100030001610000000000 -> ok
+                    send -> to-broker 000000230013000000000001ffff00000001000161000000010001000000000000000000000000
+                    broker 0000000d00000001000000010001610000 -> ok
+                    emit -> to-client 0000000d00000001000000010001610000
+                    client-end -> ok
+                    emit -> over ended
+                ",
+            ],
+        },
+    },
+    Over {
+        keys: "port = 19092\nfirst_node = 0\nin_flight = 1\n",
+        exchange: Exchange {
+            name: "one request in flight",
+            parts: &[
+                "
+                    client 00000014000c000000000001ffff0001670000000100016d00000014000c000000000002ffff0001670000000100016d -> full
+                    send -> to-broker 00000014000c000000000000ffff0001670000000100016d
+                    send -> none
+                    broker 00000006000000000000 -> ok
+                    emit -> to-client 00000006000000010000
+                    send -> to-broker 00000014000c000000000001ffff0001670000000100016d
+                    broker 00000006000000010000 -> ok
+                    emit -> to-client 00000006000000020000
+                    client-end -> ok
+                    emit -> over ended
+                ",
+            ],
+        },
+    },
+];
+
+// Runs the words over a file `f` with this text, and gives the status and what is written.
+fn ran_over(
+    alloc: Global,
+    words: &[&str],
+    text: &str,
+    script: &str,
+    piece: u32,
+    faults: &Faults,
+) -> Result<(Status, String), Fail> {
+    let file = (
+        Blob::copy(alloc, b"f")?,
+        Blob::copy(alloc, text.as_bytes())?,
+    );
+    let mut files = MemFiles::new(vec![in alloc; file]?, Vec::new(alloc));
+    ran_with(alloc, words, script, piece, faults, &mut files)
+}
+
+fn lab_with(alloc: Global, keys: &str) -> Result<String, Fail> {
+    let mut text = String::from_str(alloc, LAB)?;
+    text.push_str(keys)?;
+    Ok(text)
+}
+
+#[test]
+fn exchanges_over_a_cluster(rt: HostRuntime) -> Result<(), Fail> {
+    let alloc = rt.alloc();
+    for over in CLUSTERS {
+        let file = lab_with(alloc, over.keys)?;
+        let (script, text) = script_of(alloc, &over.exchange)?;
+        for piece in [1, 7, 4096] {
+            let (status, found) = ran_over(
+                alloc,
+                &["replay", "f", "lab"],
+                file.as_str(),
+                script.as_str(),
+                piece,
+                &NONE,
+            )?;
+            let name = over.exchange.name;
+            if found.as_str() != text.as_str() {
+                let line = first_line(alloc, text.as_str(), found.as_str())?;
+                assert_eq!(rt; line.as_str(), "", "{name}, in pieces of {piece}");
+            }
+            assert_eq!(rt; status, Status::Done, "{name}, in pieces of {piece}");
+        }
+    }
+    Ok(())
+}
+
+// The first read of the input fails, so that none of these reads it.
+const UNREAD: Faults = Faults {
+    reads: &[0],
+    writes: &[],
+    room: 65_536,
+};
+
+#[test]
+fn clusters_that_are_not_served(rt: HostRuntime) -> Result<(), Fail> {
+    let alloc = rt.alloc();
+    let table = [
+        ("la", PORTS, "refused no-cluster\n"),
+        ("labs", PORTS, "refused no-cluster\n"),
+        ("Lab", PORTS, "refused no-cluster\n"),
+        ("", PORTS, "refused no-cluster\n"),
+        (
+            "lab",
+            "port = 19092\nfirst_node = 0\nprefix = \"a-\"\n",
+            "refused no-cluster\n",
+        ),
+        ("lab", "port = 19092\n", "refused missing 0 first_node\n"),
+        ("la", "port = 19092\n", "refused missing 0 first_node\n"),
+        (
+            "lab",
+            "port = 65535\nfirst_node = 0\n",
+            "refused port-range 0\n",
+        ),
+    ];
+    for (name, keys, want) in table {
+        let file = lab_with(alloc, keys)?;
+        let words = ["replay", "f", name];
+        let (status, text) = ran_over(alloc, &words, file.as_str(), "send\n", 4096, &UNREAD)?;
+        assert_eq!(rt; text.as_str(), want, "{name}, {keys}");
+        assert_eq!(rt; status, Status::Refused, "{name}, {keys}");
+    }
+    Ok(())
+}
+
+#[test]
+fn the_second_cluster_is_found(rt: HostRuntime) -> Result<(), Fail> {
+    let alloc = rt.alloc();
+    let mut file = lab_with(alloc, PORTS)?;
+    file.push_str(
+        "[[cluster]]\nname = \"la\"\nlisten = \"h\"\nadvertise = \"q\"\nport = 1\nfirst_node = 5\nbootstrap = \"h:1\"\nnodes = [\"h:1\"]\n",
+    )?;
+    let script =
+        "client 0000000d000a000000000001ffff000167\nsend\nbroker 000000110000000000000000000500016200002384\nemit\n";
+    for (name, want) in [
+        (
+            "la",
+            "ok\nto-broker 0000000d000a000000000000ffff000167\nok\nto-client 000000110000000100000000000500017100000002\n",
+        ),
+        (
+            "lab",
+            "ok\nto-broker 0000000d000a000000000000ffff000167\nok\nover node-out-of-range request=0 node=5\n",
+        ),
+    ] {
+        let words = ["replay", "f", name];
+        let (status, text) = ran_over(alloc, &words, file.as_str(), script, 4096, &NONE)?;
+        assert_eq!(rt; text.as_str(), want, "{name}");
+        assert_eq!(rt; status, Status::Done, "{name}");
+    }
+    Ok(())
+}
+
+#[test]
+fn a_file_that_cannot_be_read_is_not_replayed(rt: HostRuntime) -> Result<(), Fail> {
+    let alloc = rt.alloc();
+    let file = lab_with(alloc, PORTS)?;
+    let words = ["replay", "g", "lab"];
+    let (status, text) = ran_over(alloc, &words, file.as_str(), "send\n", 4096, &UNREAD)?;
+    assert_eq!(rt; text.as_str(), "");
+    assert_eq!(rt; status, Status::FilesFault);
+    Ok(())
+}
+
+// A failed read of the input, and a failed write of a line that refuses.
+#[test]
+fn faults_over_a_cluster(rt: HostRuntime) -> Result<(), Fail> {
+    let alloc = rt.alloc();
+    let file = lab_with(alloc, PORTS)?;
+    let words = ["replay", "f", "lab"];
+    let (status, text) = ran_over(alloc, &words, file.as_str(), "send\n", 4096, &UNREAD)?;
+    assert_eq!(rt; text.as_str(), "");
+    assert_eq!(rt; status, Status::InputFault);
+    let faults = Faults {
+        reads: &[0],
+        writes: &[1],
+        room: 65_536,
+    };
+    let words = ["replay", "f", "la"];
+    let (status, text) = ran_over(alloc, &words, file.as_str(), "send\n", 4096, &faults)?;
+    assert_eq!(rt; text.as_str(), "refused");
+    assert_eq!(rt; status, Status::OutputFault);
+    Ok(())
+}
