@@ -12,4 +12,5 @@ pub mod SoFar
 pub mod Word
 pub mod Stepping
 pub mod FileAnswering
+pub mod OwnReplies
 pub mod Plans
