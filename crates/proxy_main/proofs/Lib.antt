@@ -13,4 +13,5 @@ pub mod Word
 pub mod Stepping
 pub mod FileAnswering
 pub mod OwnReplies
+pub mod LawfulPlans
 pub mod Plans
