@@ -1,14 +1,12 @@
 -- What a script shows the client is the own responses of its requests.
-use Rattle.std.proofs.Common.{◌≡◌, ◌∙◌, sym, subst, refl, ℕ, zero, suc, ◌+◌, ◌-◌, ◌<◌, ◌≤◌, Bool, true, false, if◌then◌else◌, List, [], ◌∷◌, ◌++◌, length, map, get_or, Ok, ◌⊎◌, inl, inr, ◌≢◌, codes, arith}
+use Rattle.std.proofs.Common.{◌≡◌, sym, subst, ℕ, zero, suc, Bool, true, false, if◌then◌else◌, List, [], ◌∷◌, ◌++◌, inl, inr, arith}
 use Rattle.std.specs.List.{All}
-use Rattle.hex.specs.Hex.{decode_of}
 use Rattle.hex.proofs.HexLemmas.{decode_of-ok}
 use Rattle.tree_spelling.specs.Laws.{AreBytes}
 use Rattle.filter_core.specs.Laws.{IsLawful}
 use Rattle.virtual_cluster.specs.declared.plan.ClusterPlan.{ClusterPlan}
 use Rattle.any_filter.specs.Chains.{cluster_chain}
 use Rattle.conn_rules.specs.Meaning.{Meaning}
-use Rattle.conn_rules.specs.History.{client_frames, broker_frames}
 use Rattle.session.specs.declared.peer.Peer.{Peer}
 use Rattle.session.specs.declared.peer.Peer.TheVariants as peer
 use Rattle.session.specs.Peers.{frames_of_peer}
@@ -24,9 +22,9 @@ use Rattle.proxy_laws.proofs.Bytes.{frames_are_bytes}
 use Rattle.proxy_laws.proofs.Sent.{own_responses, message_sends}
 use Rattle.proxy_main.specs.DefaultPlan.{cluster_meaning}
 use Rattle.proxy_main.specs.Played.{opening_play, piece_of, is_end_of, stream_in}
-use Rattle.proxy_main.specs.Scripts.{IsLineText, AreLineTexts}
+use Rattle.proxy_main.specs.Scripts.{AreLineTexts}
 use Rattle.proxy_main.specs.Replayed.{Answered}
-use Rattle.proxy_main.proofs.Playing.{AllSeen, all_seen, opening_peers}
+use Rattle.proxy_main.proofs.Playing.{all_seen, opening_peers}
 
 none_is_bytes : AreBytes []
 none_is_bytes zero = omega arith
