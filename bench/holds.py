@@ -52,7 +52,11 @@ def main():
     growths = {}
     for name in "plain", "held":
         few, full = (found[name, in_flight, "at once"] for in_flight in IN_FLIGHT)
-        growths[f"time per request, 64 in flight over 1: {name}"] = full / few
+        growth = f"time per request, 64 in flight over 1: {name}"
+        if name == "plain":
+            growths[growth] = full / few
+        else:
+            print(f"{growth:<64} {full / few:>8.2f}")
     for name in "plain", "held":
         for in_flight in IN_FLIGHT:
             old, young = (found[name, in_flight, way] for way in AT_A_TIME)
