@@ -87,6 +87,8 @@ def cases(path):
             yield f"{word} {file.stem}", [path, word, str(file)], os.devnull
     for file in sorted(TOP.glob("examples/replay/*.script")):
         yield f"replay {file.stem}", [path, "replay"], file
+    for file in sorted(TOP.glob("examples/filters/*.script")):
+        yield f"replay over {file.stem}", [path, "replay", str(file.with_suffix(".toml")), "lab"], file
 
 
 def main():

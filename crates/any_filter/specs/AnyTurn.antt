@@ -12,6 +12,8 @@ use Rattle.stock_filters.specs.ApiBlock.{api_block}
 use Rattle.stock_filters.specs.CreateTopics.{creates_topics, IsScreening}
 use Rattle.stock_filters.specs.TopicPolicy.{policy_question, policy_flags, topic_policy}
 use Rattle.stock_filters.specs.TopicExists.{creates_named, exists_question, exists_flags, topic_exists}
+use Rattle.stock_filters.specs.declared.create_topics.Screened.{Screened}
+use Rattle.stock_filters.specs.declared.group_live.Listing.{Listing}
 use Rattle.stock_filters.specs.GroupLive.{group_live, IsWaitingForGroups}
 use Rattle.address_rewrite.specs.PlanFilter.{addresses_turn}
 use Rattle.any_filter.specs.declared.any_filter.AnyFilter.{AnyFilter}
@@ -37,10 +39,10 @@ any_stands (ProduceAll filter) (pending.Forwarded kept) request inputs = inputs 
 any_stands (TopicDeny filter) (pending.Forwarded kept) request inputs = inputs ≡ []
 any_stands (ApiBlock filter) (pending.Forwarded kept) request inputs = inputs ≡ []
 any_stands (TopicPolicy filter) (pending.Screened kept) request inputs =
-    IsScreening creates_topics policy_question policy_flags (pos 29) kept.request kept.refuses kept.refused.items request inputs
+    IsScreening creates_topics policy_question policy_flags (pos 29) kept.value.request kept.value.refuses kept.value.refused.items request inputs
 any_stands (TopicExists filter) (pending.Screened kept) request inputs =
-    IsScreening creates_named exists_question exists_flags (pos 36) kept.request kept.refuses kept.refused.items request inputs
-any_stands (GroupLive filter) (pending.Listing kept) request inputs = IsWaitingForGroups kept.lists kept.listing request inputs
+    IsScreening creates_named exists_question exists_flags (pos 36) kept.value.request kept.value.refuses kept.value.refused.items request inputs
+any_stands (GroupLive filter) (pending.Listing kept) request inputs = IsWaitingForGroups kept.value.lists kept.value.listing request inputs
 any_stands (Addresses filter) (pending.Addressing kept) request inputs = inputs ≡ []
 any_stands filter kept request inputs = ⊥
 
@@ -51,3 +53,22 @@ move_with wrap (move.Side message kept) = move.Side message (wrap kept)
 move_with wrap (move.Hold key kept) = move.Hold key (wrap kept)
 move_with wrap (move.Return response) = move.Return response
 move_with wrap (move.Shut reason) = move.Shut reason
+
+-- The other move is the same, with what is kept under another type.
+abbrev pub IsMoveWith : {P Q : Type 0} → (P → Q → Type 0) → Move P → Move Q → Type 0
+IsMoveWith is_kept (move.Forward message kept) (move.Forward same other) = (same ≡ message) × is_kept kept other
+IsMoveWith is_kept (move.Side message kept) (move.Side same other) = (same ≡ message) × is_kept kept other
+IsMoveWith is_kept (move.Hold key kept) (move.Hold same other) = (same ≡ key) × is_kept kept other
+IsMoveWith is_kept (move.Return response) (move.Return same) = same ≡ response
+IsMoveWith is_kept (move.Shut reason) (move.Shut same) = same ≡ reason
+IsMoveWith is_kept made other = ⊥
+
+-- what a filter of topics keeps, in a box
+abbrev pub IsBoxedScreened : Screened → AnyPending → Type 0
+IsBoxedScreened kept (pending.Screened boxed) = boxed.value ≡ kept
+IsBoxedScreened kept other = ⊥
+
+-- what `group-live` keeps, in a box
+abbrev pub IsBoxedListing : Listing → AnyPending → Type 0
+IsBoxedListing kept (pending.Listing boxed) = boxed.value ≡ kept
+IsBoxedListing kept other = ⊥

@@ -37,9 +37,9 @@ impl Filter for AnyFilter {
             AnyFilter::ProduceAll(filter) => Ok(with_forwarded(filter.start(alloc, request)?)),
             AnyFilter::TopicDeny(filter) => Ok(with_forwarded(filter.start(alloc, request)?)),
             AnyFilter::ApiBlock(filter) => Ok(with_forwarded(filter.start(alloc, request)?)),
-            AnyFilter::TopicPolicy(filter) => Ok(with_screened(filter.start(alloc, request)?)),
-            AnyFilter::TopicExists(filter) => Ok(with_screened(filter.start(alloc, request)?)),
-            AnyFilter::GroupLive(filter) => Ok(with_listing(filter.start(alloc, request)?)),
+            AnyFilter::TopicPolicy(filter) => with_screened(alloc, filter.start(alloc, request)?),
+            AnyFilter::TopicExists(filter) => with_screened(alloc, filter.start(alloc, request)?),
+            AnyFilter::GroupLive(filter) => with_listing(alloc, filter.start(alloc, request)?),
             AnyFilter::Addresses(filter) => Ok(with_addressing(filter.start(alloc, request)?)),
         }
     }
@@ -65,13 +65,13 @@ impl Filter for AnyFilter {
                 Ok(with_forwarded(filter.resume(alloc, kept, input)?))
             }
             (AnyFilter::TopicPolicy(filter), AnyPending::Screened(kept)) => {
-                Ok(with_screened(filter.resume(alloc, kept, input)?))
+                with_screened(alloc, filter.resume(alloc, Box::into_inner(kept), input)?)
             }
             (AnyFilter::TopicExists(filter), AnyPending::Screened(kept)) => {
-                Ok(with_screened(filter.resume(alloc, kept, input)?))
+                with_screened(alloc, filter.resume(alloc, Box::into_inner(kept), input)?)
             }
             (AnyFilter::GroupLive(filter), AnyPending::Listing(kept)) => {
-                Ok(with_listing(filter.resume(alloc, kept, input)?))
+                with_listing(alloc, filter.resume(alloc, Box::into_inner(kept), input)?)
             }
             (AnyFilter::Addresses(filter), AnyPending::Addressing(kept)) => {
                 Ok(with_addressing(filter.resume(alloc, kept, input)?))

@@ -1,12 +1,12 @@
-mod Fitting
-mod Sound
-mod Once
-mod Requests
-mod Supported
-mod Connections
-mod Lists
-mod Histories
-mod Taken
-mod Bytes
-mod Sent
-mod WorkedAnswers
+pub mod Fitting
+pub mod Sound
+pub mod Once
+pub mod Requests
+pub mod Supported
+pub mod Connections
+pub mod Lists
+pub mod Histories
+pub mod Taken
+pub mod Bytes
+pub mod Sent
+pub mod WorkedAnswers

@@ -12,4 +12,6 @@ pub mod SoFar
 pub mod Word
 pub mod Stepping
 pub mod FileAnswering
+pub mod OwnReplies
+pub mod LawfulPlans
 pub mod Plans

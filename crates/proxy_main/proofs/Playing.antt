@@ -162,9 +162,9 @@ its_push s t a hs h =
 
 -- ---- what a line does, as both streams see it, and what its answer shows
 
-record IsBothPeers (p : Play) : Type 0 where
-  client : p.client.peer ≡ peer.Client
-  broker : p.broker.peer ≡ peer.Broker
+pub record IsBothPeers (p : Play) : Type 0 where
+  pub client : p.client.peer ≡ peer.Client
+  pub broker : p.broker.peer ≡ peer.Broker
 
 other_is_broker : (p : Play) → IsBothPeers p → other_peer p.client.peer ≡ p.broker.peer
 other_is_broker p is = ap other_peer is.client ∙ sym is.broker
@@ -258,12 +258,12 @@ bytes_more false false true bytes piece more e none = cc
 bytes_more false false false bytes piece more e none = append_assoc bytes piece more
 
 -- what the lines do, all in all
-record AllSeen (M : Meaning) (p : Play) (ls : List Line) (answers : List Answer) (hs : List Entry) (q : Play) : Type 0 where
-  client : (bytes : List ℕ) (before : List Entry) → IsStreamOf bytes before p.client → IsStreamOf (if p.client.ended then bytes else (bytes ++ stream_in peer.Client ls)) (before ++ hs) q.client
-  broker : (bytes : List ℕ) (before : List Entry) → IsStreamOf bytes before p.broker → IsStreamOf (if p.broker.ended then bytes else (bytes ++ stream_in peer.Broker ls)) (before ++ hs) q.broker
-  both : IsBothPeers q
-  leads : LeadsTo M p.state hs q.state
-  shown : flat_map shown_to_client answers ≡ out hs
+pub record AllSeen (M : Meaning) (p : Play) (ls : List Line) (answers : List Answer) (hs : List Entry) (q : Play) : Type 0 where
+  pub client : (bytes : List ℕ) (before : List Entry) → IsStreamOf bytes before p.client → IsStreamOf (if p.client.ended then bytes else (bytes ++ stream_in peer.Client ls)) (before ++ hs) q.client
+  pub broker : (bytes : List ℕ) (before : List Entry) → IsStreamOf bytes before p.broker → IsStreamOf (if p.broker.ended then bytes else (bytes ++ stream_in peer.Broker ls)) (before ++ hs) q.broker
+  pub both : IsBothPeers q
+  pub leads : LeadsTo M p.state hs q.state
+  pub shown : flat_map shown_to_client answers ≡ out hs
 
 -- one stream: the first line, and then the others
 stream_more : (p : Peer) (l : Line) (ls : List Line) (s m t : Stream) (first rest : List Entry) → SeenBy p l s first m → ((bytes : List ℕ) (before : List Entry) → IsStreamOf bytes before m → IsStreamOf (if m.ended then bytes else (bytes ++ stream_in p ls)) (before ++ rest) t)
@@ -273,7 +273,7 @@ stream_more p l ls s m t first rest seen more bytes before is =
     subst (λ ks. IsStreamOf (if s.ended then bytes else (bytes ++ stream_in p (l ∷ ls))) ks t) (append_assoc before first rest)
     (subst (λ xs. IsStreamOf xs ((before ++ first) ++ rest) t) (bytes_more s.ended (is_end_of l p) m.ended bytes (piece_of l p) (stream_in p ls) seen.ended (end_is_empty l p)) there)
 
-all_seen : (M : Meaning) (p : Play) (ls : List Line) (answers : List Answer) (hs : List Entry) (q : Play) → IsBothPeers p → ArePlayed M p ls answers hs q → AllSeen M p ls answers hs q
+pub all_seen : (M : Meaning) (p : Play) (ls : List Line) (answers : List Answer) (hs : List Entry) (q : Play) → IsBothPeers p → ArePlayed M p ls answers hs q → AllSeen M p ls answers hs q
 all_seen M p [] [] hs q both h =
     let here : AllSeen M p [] [] [] p = record {
       client = λ bytes before is. subst (λ ks. IsStreamOf (if p.client.ended then bytes else (bytes ++ [])) ks p.client) (sym (append_nil before)) (subst (λ xs. IsStreamOf xs before p.client) (no_bytes p.client.ended bytes) is);
@@ -328,7 +328,7 @@ own_requests M hs q bytes client history is frames tail cut =
     subst (λ x. AreFirst (frames_of_peer x hs) frames) client (stream_cut bytes hs q.client frames tail is (subst (λ x. Cuts (least_size x) (most_size x) bytes frames tail) (sym client) cut)) in
     first_of_first _ (frames_taken hs) frames of_taken (first_of_first (frames_taken hs) (client_frames hs) frames of_frames of_stream)
 
-opening_peers : IsBothPeers opening_play
+pub opening_peers : IsBothPeers opening_play
 opening_peers = record { client = refl; broker = refl }
 
 -- the lines with one more

@@ -12,6 +12,7 @@ mod command;
 mod conclude;
 mod default_plan;
 mod file_answer;
+mod laws;
 mod lines;
 mod output;
 mod perform;
@@ -25,4 +26,5 @@ mod stop;
 mod tests;
 
 pub use command::run_command;
+pub use laws::replay_laws;
 pub use status::Status;

@@ -14,6 +14,7 @@ mod by_bodies;
 mod by_clusters;
 mod by_ends;
 mod by_files;
+mod by_holds;
 mod by_room;
 mod by_silence;
 mod by_streams;

@@ -12,23 +12,29 @@ use tree_codec::{Body, Builder, Primitive};
 // 128 times as many are the greatest frame.
 const MILLION: usize = 1_048_576;
 
-// How a request went whose every ask is answered: the sends, and what was emitted then.
-fn all_asked(alloc: Global, chain: &[Filters]) -> Result<(u32, Got), AllocError> {
-    let mut core = Core::new(alloc, chain_of(alloc, chain)?, 64);
-    let _ = takes(&mut core, Bytes::copy_from_slice(alloc, H7)?);
+// Answers each send that comes, from this upstream id on. The number of them.
+fn answers_all(alloc: Global, core: &mut Core<Probe>, first_id: u32) -> Result<u32, AllocError> {
     for sends in 0..1000u32 {
         if core.send().is_none() {
-            return Ok((sends, emitted(core.emit())));
+            return Ok(sends);
         }
         let mut answer = Vec::new(alloc);
-        answer.extend_from_slice(&sends.to_be_bytes())?;
+        answer.extend_from_slice(&first_id.saturating_add(sends).to_be_bytes())?;
         answer.extend_from_slice(b"\0\0")?;
         let answer = Bytes::from_vec(answer)?;
         if answer.len() >= 4 {
             let _ = core.answer(answer, &mut Steps::<Counted>::new());
         }
     }
-    Ok((1000, Told::Nothing))
+    Ok(1000)
+}
+
+// How a request went whose every ask is answered: the sends, and what was emitted then.
+fn all_asked(alloc: Global, chain: &[Filters]) -> Result<(u32, Got), AllocError> {
+    let mut core = Core::new(alloc, chain_of(alloc, chain)?, 64);
+    let _ = takes(&mut core, Bytes::copy_from_slice(alloc, H7)?);
+    let sends = answers_all(alloc, &mut core, 0)?;
+    Ok((sends, emitted(core.emit())))
 }
 
 #[test]
@@ -41,6 +47,40 @@ fn a_request_asks_64_times(rt: HostRuntime) -> Result<(), Fail> {
         &[Asks(0, 3), Asks(0, 3), Asks(0, 3), Asks(0, 3)],
     )?;
     assert_eq!(rt; sends, 64);
+    let wanted = Told::Over(End::AskBudget { request: 0 });
+    assert!(rt; is_wanted(&got, wanted), "got {got:?}");
+    Ok(())
+}
+
+// The verdict on this request, which waits for it with its first ask.
+fn lets_go(alloc: Global, core: &mut Core<Probe>, request: u64) -> Result<Got, AllocError> {
+    reply_to(alloc, core, Line::Verdict(request, 0, b"yes"))
+}
+
+// The first of two requests is held while the second one asks as often as it may. The cut stands at the second, and then at
+// the first.
+#[test]
+fn an_earlier_request_is_open_at_the_budget(rt: HostRuntime) -> Result<(), Fail> {
+    let alloc = rt.alloc();
+    let asks = Asks(0, 3);
+    let chain = chain_of(alloc, &[Asks(2, 1), asks, asks, asks, asks])?;
+    let mut core = Core::new(alloc, chain, 64);
+    for frame in [H7, H8] {
+        let got = takes(&mut core, Bytes::copy_from_slice(alloc, frame)?);
+        assert!(rt; is_wanted(&got, Told::Fine), "got {got:?}");
+    }
+    let got = lets_go(alloc, &mut core, 1)?;
+    assert!(rt; is_wanted(&got, Told::Fine), "got {got:?}");
+    // with the verdict these are 64
+    assert_eq!(rt; answers_all(alloc, &mut core, 0)?, 63);
+    let got = emitted(core.emit());
+    assert!(rt; is_wanted(&got, Told::Later), "got {got:?}");
+    let got = takes(&mut core, Bytes::copy_from_slice(alloc, H7)?);
+    assert!(rt; is_wanted(&got, Told::Back(H7)), "got {got:?}");
+    let got = lets_go(alloc, &mut core, 0)?;
+    assert!(rt; is_wanted(&got, Told::Fine), "got {got:?}");
+    assert_eq!(rt; answers_all(alloc, &mut core, 63)?, 63);
+    let got = emitted(core.emit());
     let wanted = Told::Over(End::AskBudget { request: 0 });
     assert!(rt; is_wanted(&got, wanted), "got {got:?}");
     Ok(())

@@ -1,0 +1,9 @@
+use Rattle.proxy_main.proofs.LawfulPlans.{chain_lawful}
+use Rattle.proxy_main.proofs.OwnReplies.{replay_responses, replay_sends}
+use Rattle.proxy_main.proofs.laws.replay_laws.Goals as goal
+
+pub returns-clause-own_responses : goal.returns-clause-own_responses
+returns-clause-own_responses c plan valid = replay_responses plan (chain_lawful plan (c.addresses_law.ensures.lawful plan valid))
+
+pub returns-clause-message_sends : goal.returns-clause-message_sends
+returns-clause-message_sends c plan valid = replay_sends plan (chain_lawful plan (c.addresses_law.ensures.lawful plan valid))
