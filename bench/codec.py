@@ -35,8 +35,9 @@ def array(entries):
 
 
 def metadata(index):
-    """Metadata, version 1: all topics are asked for, and 1,000 of three partitions are told."""
-    broker = number(0, 4) + text("kafka") + number(9092, 4) + number(-1, 2)
+    """Metadata, version 1: all topics are asked for, and 1,000 of three partitions are told. The broker is told where the
+    proxy puts it, so the answer is written anew and stays the same."""
+    broker = number(0, 4) + text("localhost") + number(19093, 4) + number(-1, 2)
     node = array([number(0, 4)])
     partitions = array([number(0, 2) + number(i, 4) + number(0, 4) + node + node for i in range(3)])
     topics = [number(0, 2) + text(f"topic-{i:04}") + b"\0" + partitions for i in range(1000)]
