@@ -1,1 +1,4 @@
 pub mod Probes
+pub mod Heeding
+pub mod ProbeTurns
+pub mod Grown

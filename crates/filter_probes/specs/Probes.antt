@@ -1,7 +1,7 @@
--- The filters of the tests. They know a Heartbeat of version 0 and a Metadata request of version 4.
-use Rattle.std.specs.Prelude.{◌≡◌, ◌≤◌, ◌<◌, nat_lt, ℕ, zero, suc, ◌+◌, ℤ, pos, Bool, true, false, ◌&&◌, if◌then◌else◌, List, [], ◌∷◌, ◌++◌, length, Option, Some, None}
+-- Probes that ask, and probes that have two turns. They know a Heartbeat of version 0 and a Metadata request of version 4.
+use Rattle.std.specs.Prelude.{◌≡◌, ◌≤◌, ◌<◌, nat_lt, ℕ, zero, suc, ℤ, pos, Bool, true, false, ◌&&◌, if◌then◌else◌, List, [], ◌∷◌, ◌++◌, length, Option, Some, None}
 use Rattle.std.specs.Ordering.{int_eq}
-use Rattle.std.proofs.Common.{◌∙◌, ap, sym, subst, refl, arith, rules, append_assoc}
+use Rattle.std.proofs.Common.{◌∙◌, sym, subst, refl, arith, rules}
 use Rattle.std.proofs.lemmas.Bool.Decides.{nat_tests, Decides-int_eq}
 use Rattle.kp_schema.specs.declared.dir.Dir.TheVariants as dir
 use Rattle.kp_schema.specs.Messages.{fields_of, messages, is_supported, supported_versions}
@@ -10,18 +10,16 @@ use Rattle.kp_schema.specs.Metadata as Metadata
 use Rattle.std.specs.Prelude.{FitsSigned}
 use Rattle.std.specs.Int.{w16}
 use Rattle.tree_spelling.specs.declared.primitive.Primitive.TheVariants.{Int16, Int32, Boolean, Text, Count}
-use Rattle.tree_spelling.specs.Body.{Contents, IsTree, IsOf}
+use Rattle.tree_spelling.specs.Body.{Contents, IsTree}
 use Rattle.filter_core.specs.declared.input.Input.{Input}
 use Rattle.filter_core.specs.declared.reason.Reason.TheVariants.{Code}
-use Rattle.filter_core.specs.Acks.{has_acks_zero}
 use Rattle.filter_core.specs.Decision.{Decision, Forward, Side, HoldFor, Return, Shut, Turn}
 use Rattle.filter_core.specs.declared.input.Input.TheVariants.{Response, NoResponse, Verdict}
-use Rattle.filter_core.specs.Inputs.{IsWholeRequest, IsResponseTo, MayComeFor, FollowFrom}
+use Rattle.filter_core.specs.Inputs.{IsResponseTo, MayComeFor, FollowFrom}
 use Rattle.filter_core.specs.Laws.{IsForward, IsLast, IsSentOnAs, WillBeAnswered, AnswersRequest, ForwardsOnce, EndsAfterSix, ForwardsTheSame, QuestionsAreAnswered, ReturnsAnAnswer}
 use Rattle.filter_core.specs.Responses.{response_given}
-use Rattle.filter_core.specs.TwoTurns.{two_turns, handed_back}
+use Rattle.filter_core.specs.TwoTurns.{handed_back}
 use Rattle.filter_core.specs.Lawful.{IsNoQuestion, KeepsLaws, sent_on_itself, answers_both, handing_back}
-use Rattle.filter_core.specs.Lawful as lawful
 
 -- group_id, generation_id, member_id
 abbrev pub probe_heartbeat : Contents
@@ -187,7 +185,7 @@ both true false e = (refl, e)
 both false true e = (e, refl)
 both false false e = (e, e)
 
-message_is : (key version : ℤ) (body : Contents) → is_message key version body ≡ true → (body.key ≡ key) × (body.version ≡ version)
+pub message_is : (key version : ℤ) (body : Contents) → is_message key version body ≡ true → (body.key ≡ key) × (body.version ≡ version)
 message_is key version body e =
     let h = both (int_eq body.key key) (int_eq body.version version) e in
     ((Decides-int_eq body.key key).0 h.0, (Decides-int_eq body.version version).0 h.1)
@@ -196,7 +194,7 @@ error_tree : (error : ℤ) → FitsSigned w16 error → IsTree (heartbeat_error 
 unfolding fields_of messages Heartbeat.response
 error_tree error fits = record { value = (error, tt); is = refl; in_range = (fits, tt) }
 
-error_answers : (request : Contents) (error : ℤ) → FitsSigned w16 error → is_message (pos 12) (pos 0) request ≡ true → IsResponseTo request (heartbeat_error error)
+pub error_answers : (request : Contents) (error : ℤ) → FitsSigned w16 error → is_message (pos 12) (pos 0) request ≡ true → IsResponseTo request (heartbeat_error error)
 error_answers request error fits e =
     let h = message_is (pos 12) (pos 0) request e in
     record { tree = error_tree error fits; of = record { key_is = sym h.0; version_is = sym h.1; dir_is = refl } }
@@ -276,59 +274,3 @@ two_turns_keep kind =
       returns = gives_back kind;
       returned_back = returned_back_any kind;
     }
-
--- ---- both kinds
-
-abbrev pub probe_turn : Bool → ℕ → ℕ → Turn
-probe_turn true w n = probe_asking w (how_often n)
-probe_turn false w n = two_turns (on_request_of w) (on_input_of w)
-
--- what it does with a response to what it forwarded
-abbrev pub last_turn : Bool → ℕ → Input → Decision
-last_turn true w input = handed_back input
-last_turn false w input = on_input_of w input
-
--- It waits with the request that it forwards later, or it has forwarded it.
-abbrev pub ProbeIsWaiting : Bool → ℕ → ℕ → Option Contents → ℕ → Contents → List Input → Type 0
-ProbeIsWaiting asks w n None left request inputs = (x : Input) (xs : List Input) → probe_turn asks w n request (inputs ++ x ∷ xs) ≡ last_turn asks w x
-ProbeIsWaiting asks w n (Some later) left request inputs =
-    (asks ≡ true) × (later ≡ request) × ((x : Input) (xs : List Input) → probe_turn asks w n request (inputs ++ x ∷ xs) ≡ probe_asking w left request xs)
-
--- what it keeps where it asks with so many to go
-abbrev pub AskingNow : ℕ → Contents → Option Contents → ℕ → Type 0
-AskingNow left request None l = left ≡ 0
-AskingNow left request (Some later) l = (later ≡ request) × (left ≡ suc l)
-
-pub probe_forwards_once : (asks : Bool) (w n : ℕ) → ForwardsOnce (probe_turn asks w n)
-probe_forwards_once true w n = asking_forwards_once w (how_often n)
-probe_forwards_once false w n = lawful.forwards_once (on_request_of w) (on_input_of w) (two_turns_keep w)
-
-pub probe_ends : (asks : Bool) (w n : ℕ) → EndsAfterSix (probe_turn asks w n)
-probe_ends true w n = asking_ends w n
-probe_ends false w n = lawful.ends_after_six (on_request_of w) (on_input_of w) (two_turns_keep w)
-
-pub probe_forwards_same : (asks : Bool) (w n : ℕ) → ForwardsTheSame (probe_turn asks w n)
-probe_forwards_same true w n = asking_forwards_same w (how_often n)
-probe_forwards_same false w n = lawful.forwards_the_same (on_request_of w) (on_input_of w) (two_turns_keep w)
-
-pub probe_answered : (asks : Bool) (w n : ℕ) → QuestionsAreAnswered (probe_turn asks w n)
-probe_answered true w n = asking_answered w (how_often n)
-probe_answered false w n = lawful.questions_are_answered (on_request_of w) (on_input_of w) (two_turns_keep w)
-
-pub probe_returns : (asks : Bool) (w n : ℕ) → ReturnsAnAnswer (probe_turn asks w n)
-probe_returns true w n = asking_returns w (how_often n)
-probe_returns false w n = lawful.returns_an_answer (on_request_of w) (on_input_of w) (two_turns_keep w)
-
-module _ (w n : ℕ) where
-  -- at its start
-  pub starts_waiting : (request : Contents) (later : Option Contents) (l : ℕ) → AskingNow (how_often n) request later l → ProbeIsWaiting true w n later l request []
-  starts_waiting request None l h = λ x xs. ap (λ k. probe_asking w k request (x ∷ xs)) h
-  starts_waiting request (Some later) l h = (refl, h.0, λ x xs. ap (λ k. probe_asking w k request (x ∷ xs)) h.1)
-
-  -- and when it was given something
-  pub still_waiting : (left : ℕ) (request : Contents) (inputs : List Input) (y : Input) (later : Option Contents) (l : ℕ)
-      → ((x : Input) (xs : List Input) → probe_asking w (how_often n) request (inputs ++ x ∷ xs) ≡ probe_asking w left request xs)
-      → AskingNow left request later l → ProbeIsWaiting true w n later l request (inputs ++ y ∷ [])
-  still_waiting left request inputs y None l goes h = λ x xs. ap (probe_asking w (how_often n) request) (append_assoc inputs (y ∷ []) (x ∷ xs)) ∙ goes y (x ∷ xs) ∙ ap (λ k. probe_asking w k request (x ∷ xs)) h
-  still_waiting left request inputs y (Some later) l goes h =
-      (refl, h.0, λ x xs. ap (probe_asking w (how_often n) request) (append_assoc inputs (y ∷ []) (x ∷ xs)) ∙ goes y (x ∷ xs) ∙ ap (λ k. probe_asking w k request (x ∷ xs)) h.1)

@@ -1,5 +1,5 @@
 -- The worked chain, computed.
-use Rattle.std.proofs.Common.{◌≡◌, refl, Bool, true, false, ℕ, [], ◌∷◌, pos, replicate, Some, None, rules}
+use Rattle.std.proofs.Common.{◌≡◌, refl, true, false, [], ◌∷◌, pos, replicate, Some, None, rules}
 use Rattle.std.specs.List.{All}
 use Rattle.std.proofs.lemmas.List.Elements.{All-nil, All-cons}
 use Rattle.kp_schema.specs.Messages.{fields_of, messages}
@@ -11,22 +11,27 @@ use Rattle.filter_core.specs.Laws.{IsLawful}
 use Rattle.side_requests.specs.declared.ask.Ask.TheVariants as ask
 use Rattle.filter_chain.specs.Chain.{turns_on}
 use Rattle.filter_chain.specs.Outcomes.{Needs, Completed, NeverEnds, run, turns}
-use Rattle.filter_probes.specs.Probes.{probe_heartbeat, metadata, heartbeat_error, probe_turn, probe_forwards_once, probe_ends, probe_forwards_same, probe_answered, probe_returns}
+use Rattle.filter_probes.specs.declared.habit.Habit.{Habit}
+use Rattle.filter_probes.specs.declared.habit.Habit.TheVariants.{Asking, TwoTurns}
+use Rattle.filter_probes.specs.Probes.{probe_heartbeat, metadata, heartbeat_error}
+use Rattle.filter_probes.specs.ProbeTurns.{probe_turn, probe_forwards_once, probe_ends, probe_forwards_same, probe_answered, probe_returns}
 use Rattle.proxy_laws.specs.Coming.{MayHaveCome}
 use Rattle.proxy_laws.specs.WorkedChain.{worked_filters, restless, empty_cluster, metadata_came, heartbeat_came}
 
-probe_is_lawful : (asks : Bool) (what times : ℕ) → IsLawful (probe_turn asks what times)
-probe_is_lawful asks what times =
+probe_is_lawful : (habit : Habit) → IsLawful (probe_turn habit)
+probe_is_lawful habit =
     record {
-      forwards_once = probe_forwards_once asks what times;
-      ends_after_six = probe_ends asks what times;
-      forwards_the_same = probe_forwards_same asks what times;
-      questions_are_answered = probe_answered asks what times;
-      returns_an_answer = probe_returns asks what times;
+      forwards_once = probe_forwards_once habit;
+      ends_after_six = probe_ends habit;
+      forwards_the_same = probe_forwards_same habit;
+      questions_are_answered = probe_answered habit;
+      returns_an_answer = probe_returns habit;
     }
 
 pub lawful : All IsLawful worked_filters
-lawful = All-cons IsLawful (probe_turn true 1 1) (probe_turn false 0 0 ∷ []) (probe_is_lawful true 1 1) (All-cons IsLawful (probe_turn false 0 0) [] (probe_is_lawful false 0 0) (All-nil IsLawful))
+lawful =
+    All-cons IsLawful (probe_turn (Asking 1 1)) (probe_turn (TwoTurns 0) ∷ []) (probe_is_lawful (Asking 1 1))
+    (All-cons IsLawful (probe_turn (TwoTurns 0)) [] (probe_is_lawful (TwoTurns 0)) (All-nil IsLawful))
 
 pub asks_aside : run worked_filters probe_heartbeat [] ≡ Needs (ask.Broker metadata false)
 unfolding turns_on
