@@ -9,6 +9,7 @@ use self::by_room::{AT_ONE, AT_SIXTY_FOUR, LOOKS};
 use self::by_silence::SILENT;
 use crate::{AnswerFault, CompleteFault, Connection, Core, Emit, Fault, Look, TakeFault, Ticket};
 use bytes::Bytes;
+use filter_core::Filter;
 use filter_probes::Probe;
 use kp_edge::{Blob, End, Steps};
 use std::alloc::{AllocError, Global};
@@ -158,7 +159,7 @@ fn is_wanted(got: &Got, want: Want) -> bool {
     }
 }
 
-fn takes(core: &mut Core<Probe>, frame: Bytes) -> Got {
+fn takes<F: Filter + Drop>(core: &mut Core<F>, frame: Bytes) -> Got {
     if frame.len() < 8 {
         return Told::Nothing;
     }
@@ -166,9 +167,9 @@ fn takes(core: &mut Core<Probe>, frame: Bytes) -> Got {
 }
 
 // The first of so many frames that isn't taken, or the last.
-fn takes_many(
+fn takes_many<F: Filter + Drop>(
     alloc: Global,
-    core: &mut Core<Probe>,
+    core: &mut Core<F>,
     times: u32,
     frame: &[u8],
 ) -> Result<Got, AllocError> {
@@ -193,7 +194,11 @@ fn with_client_id(alloc: Global, length: i16, bytes: u32) -> Result<Bytes, Alloc
 }
 
 // What the core answers to this line.
-fn reply_to(alloc: Global, core: &mut Core<Probe>, line: Line) -> Result<Got, AllocError> {
+fn reply_to<F: Filter + Drop>(
+    alloc: Global,
+    core: &mut Core<F>,
+    line: Line,
+) -> Result<Got, AllocError> {
     match line {
         Line::Client(bytes) => Ok(takes(core, Bytes::copy_from_slice(alloc, bytes)?)),
         Line::Clients(times, bytes) => takes_many(alloc, core, times, bytes),
@@ -260,8 +265,17 @@ fn wrong_line(
         return Ok(Some((0, Told::Nothing)));
     }
     let mut core = Core::new(alloc, chain_of(alloc, chain)?, in_flight);
+    wrong_reply(alloc, &mut core, lines)
+}
+
+// The first of these lines that this core answers otherwise.
+fn wrong_reply<F: Filter + Drop>(
+    alloc: Global,
+    core: &mut Core<F>,
+    lines: &[(Line, Want)],
+) -> Result<Option<(usize, Got)>, AllocError> {
     for (i, (line, want)) in lines.iter().enumerate() {
-        let got = reply_to(alloc, &mut core, *line)?;
+        let got = reply_to(alloc, core, *line)?;
         if !is_wanted(&got, *want) {
             return Ok(Some((i, got)));
         }

@@ -4,6 +4,7 @@ use super::*;
 use crate::envelope::Envelope;
 use crate::telling::tell;
 use filter_chain::{Run, State};
+use filter_probes::{Grows, Growth};
 use kp_edge::NoMemory;
 use kp_schema::Dir;
 use serving::{Cause, Progress};
@@ -163,5 +164,236 @@ fn frames_that_go_out_have_a_limit(rt: HostRuntime) -> Result<(), Fail> {
         Ok(134_217_732)
     );
     assert_eq!(rt; told_of_size(rt.alloc(), 134_217_725, false)?, grown);
+    Ok(())
+}
+
+// SyncGroup requests of version 0 without an assignment
+const S7: &[u8] = b"\0\x0e\0\0\0\0\0\x07\xff\xff\0\x01g\0\0\0\x01\0\x01m\0\0\0\0";
+
+const S8: &[u8] = b"\0\x0e\0\0\0\0\0\x08\xff\xff\0\x01g\0\0\0\x01\0\x01m\0\0\0\0";
+
+// Answers without an error and with an empty assignment, and the responses
+const SYNC_A0: &[u8] = b"\0\0\0\0\0\0\0\0\0\0";
+
+const SYNC_A1: &[u8] = b"\0\0\0\x01\0\0\0\0\0\0";
+
+const SYNC_A7_SIZED: &[u8] = b"\0\0\0\x0a\0\0\0\x07\0\0\0\0\0\0";
+
+const SYNC_A8_SIZED: &[u8] = b"\0\0\0\x0a\0\0\0\x08\0\0\0\0\0\0";
+
+// The greatest payload of a send, which has 30 bytes beside, and of a response, which has 10.
+const GREATEST_SENT: usize = 134_217_698;
+
+const GREATEST_RETURNED: usize = 134_217_718;
+
+// How these sends, and responses, begin: their size, what stands before the payload, and its length.
+const SENT_0: &[u8] =
+    b"\x08\0\0\0\0\x0e\0\0\0\0\0\0\xff\xff\0\x01g\0\0\0\x01\0\x01m\0\0\0\x01\0\0\x07\xff\xff\xe2a";
+
+const SENT_1: &[u8] =
+    b"\x08\0\0\0\0\x0e\0\0\0\0\0\x01\xff\xff\0\x01g\0\0\0\x01\0\x01m\0\0\0\x01\0\0\x07\xff\xff\xe2a";
+
+const RETURNED_7: &[u8] = b"\x08\0\0\0\0\0\0\x07\0\0\x07\xff\xff\xf6a";
+
+const RETURNED_8: &[u8] = b"\x08\0\0\0\0\0\0\x08\0\0\x07\xff\xff\xf6a";
+
+// A connection whose filter puts a payload of so many bytes into SyncGroup: an a, zeros and a z.
+fn growing(alloc: Global, growth: Growth, bytes: usize) -> Result<Core<Grows>, AllocError> {
+    let mut payload = vec![in alloc; 0u8; bytes]?;
+    if let Some(first) = payload.first_mut() {
+        *first = b'a';
+    }
+    if let Some(last) = payload.last_mut() {
+        *last = b'z';
+    }
+    let payload = Bytes::from_vec(payload)?;
+    let mut chain = Vec::new(alloc);
+    if payload.len() <= 2_147_483_647 {
+        chain.push(Grows::by(growth, payload))?;
+    }
+    Ok(Core::new(alloc, chain, 64))
+}
+
+// The frame has 134,217,728 bytes behind its size, begins so, and ends with the payload's last byte.
+fn is_greatest(got: &Got, begin: &[u8]) -> bool {
+    match got {
+        Told::Bytes(frame) => {
+            frame.len() == 134_217_732
+                && frame.as_slice().starts_with(begin)
+                && frame.as_slice().last() == Some(&b'z')
+        }
+        _ => false,
+    }
+}
+
+// How the greatest frame goes out.
+struct Greatest {
+    name: &'static str,
+    growth: Growth,
+    payload: usize,
+    before: &'static [(Line, Want)],
+    // the line that it answers, and how it begins
+    line: Line,
+    begin: &'static [u8],
+    behind: &'static [(Line, Want)],
+}
+
+const GREATEST: [Greatest; 4] = [
+    Greatest {
+        name: "a send, alone",
+        growth: Growth::Sends,
+        payload: GREATEST_SENT,
+        before: &[(Line::Client(S7), Told::Fine)],
+        line: Line::Send,
+        begin: SENT_0,
+        behind: &[
+            (Line::Send, Told::Nothing),
+            (Line::Emit, Told::Later),
+            (Line::Broker(SYNC_A0), Told::Fine),
+            (Line::Emit, Told::Bytes(SYNC_A7_SIZED)),
+        ],
+    },
+    Greatest {
+        name: "a send behind an earlier request",
+        growth: Growth::Sends,
+        payload: GREATEST_SENT,
+        before: &[
+            (Line::Client(H7), Told::Fine),
+            (Line::Client(S8), Told::Fine),
+            (Line::Send, Told::Bytes(H0_SIZED)),
+        ],
+        line: Line::Send,
+        begin: SENT_1,
+        behind: &[
+            (Line::Emit, Told::Later),
+            (Line::Broker(A0), Told::Fine),
+            (Line::Broker(SYNC_A1), Told::Fine),
+            (Line::Emit, Told::Bytes(A7_SIZED)),
+            (Line::Emit, Told::Bytes(SYNC_A8_SIZED)),
+        ],
+    },
+    Greatest {
+        name: "a response, alone",
+        growth: Growth::Responses,
+        payload: GREATEST_RETURNED,
+        before: &[(Line::Client(S7), Told::Fine), (Line::Send, Told::Nothing)],
+        line: Line::Emit,
+        begin: RETURNED_7,
+        behind: &[(Line::Emit, Told::Later)],
+    },
+    Greatest {
+        name: "a response behind an earlier request",
+        growth: Growth::Responses,
+        payload: GREATEST_RETURNED,
+        before: &[
+            (Line::Client(H7), Told::Fine),
+            (Line::Client(S8), Told::Fine),
+            (Line::Send, Told::Bytes(H0_SIZED)),
+            (Line::Send, Told::Nothing),
+            (Line::Emit, Told::Later),
+            (Line::Broker(A0), Told::Fine),
+            (Line::Emit, Told::Bytes(A7_SIZED)),
+        ],
+        line: Line::Emit,
+        begin: RETURNED_8,
+        behind: &[(Line::Emit, Told::Later)],
+    },
+];
+
+// It goes out whole, and the lines before and behind it are answered as they say.
+fn goes_out_whole(alloc: Global, greatest: &Greatest) -> Result<bool, AllocError> {
+    let mut core = growing(alloc, greatest.growth, greatest.payload)?;
+    if wrong_reply(alloc, &mut core, greatest.before)?.is_some() {
+        return Ok(false);
+    }
+    let got = reply_to(alloc, &mut core, greatest.line)?;
+    if !is_greatest(&got, greatest.begin) {
+        return Ok(false);
+    }
+    Ok(wrong_reply(alloc, &mut core, greatest.behind)?.is_none())
+}
+
+#[test]
+fn the_greatest_frames_go_out_whole(rt: HostRuntime) -> Result<(), Fail> {
+    for greatest in &GREATEST {
+        assert!(rt; goes_out_whole(rt.alloc(), greatest)?, "{}", greatest.name);
+    }
+    Ok(())
+}
+
+const GROWN: End = End::GrownPast {
+    request: 0,
+    size: 134_217_729,
+};
+
+const GROWN_BEHIND: End = End::GrownPast {
+    request: 1,
+    size: 134_217_729,
+};
+
+const ALONE: &[(Line, Want)] = &[
+    (Line::Client(S7), Told::Fine),
+    (Line::Client(H8), Told::Back(H8)),
+    (Line::Send, Told::Nothing),
+    (Line::Emit, Told::Over(GROWN)),
+    (Line::Emit, Told::Over(GROWN)),
+];
+
+// The cut stands at the second request, and the first is served.
+const BEHIND: &[(Line, Want)] = &[
+    (Line::Client(H7), Told::Fine),
+    (Line::Client(S8), Told::Fine),
+    (Line::Send, Told::Bytes(H0_SIZED)),
+    (Line::Send, Told::Nothing),
+    (Line::Emit, Told::Later),
+    (Line::Client(H7), Told::Back(H7)),
+    (Line::Broker(A0), Told::Fine),
+    (Line::Emit, Told::Bytes(A7_SIZED)),
+    (Line::Emit, Told::Over(GROWN_BEHIND)),
+];
+
+// One byte more than goes out.
+struct GrownPast {
+    name: &'static str,
+    growth: Growth,
+    payload: usize,
+    lines: &'static [(Line, Want)],
+}
+
+const GROWN_PAST: [GrownPast; 4] = [
+    GrownPast {
+        name: "a send, alone",
+        growth: Growth::Sends,
+        payload: GREATEST_SENT + 1,
+        lines: ALONE,
+    },
+    GrownPast {
+        name: "a send behind an earlier request",
+        growth: Growth::Sends,
+        payload: GREATEST_SENT + 1,
+        lines: BEHIND,
+    },
+    GrownPast {
+        name: "a response, alone",
+        growth: Growth::Responses,
+        payload: GREATEST_RETURNED + 1,
+        lines: ALONE,
+    },
+    GrownPast {
+        name: "a response behind an earlier request",
+        growth: Growth::Responses,
+        payload: GREATEST_RETURNED + 1,
+        lines: BEHIND,
+    },
+];
+
+#[test]
+fn a_frame_past_the_greatest_ends_the_connection(rt: HostRuntime) -> Result<(), Fail> {
+    for grown in &GROWN_PAST {
+        let mut core = growing(rt.alloc(), grown.growth, grown.payload)?;
+        if let Some((i, _)) = wrong_reply(rt.alloc(), &mut core, grown.lines)? {
+            assert!(rt; false, "{}, line {i}", grown.name);
+        }
+    }
     Ok(())
 }
