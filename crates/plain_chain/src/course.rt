@@ -33,7 +33,7 @@ pub struct Course {
 
 // What becomes of a message from one filter on: what comes back for it, or how the request stands.
 enum Fate {
-    Back(Given),
+    Back(Option<Response>),
     Stops(Outcome),
 }
 
@@ -80,7 +80,7 @@ fn walk(
                 let body = ResponseBody::Came(place);
                 Fate::Back(Some(Response { key, version, body }))
             }
-            Some((_, Came::NoResponse | Came::Verdict)) => Fate::Back(None),
+            Some((_, Came::NoResponse | Came::Verdict(_))) => Fate::Back(None),
         });
     };
     let mut given: Vec<Given> = Vec::new(alloc);
@@ -94,19 +94,30 @@ fn walk(
             Decision::Side(message) => {
                 walk(alloc, nearer, next_filter, message, false, outside, turns)?
             }
-            Decision::Hold => match next(outside) {
-                None => Fate::Stops(Outcome::Holds { filter }),
-                Some(_) => Fate::Back(None),
-            },
+            Decision::Hold => {
+                let Some((_, came)) = next(outside) else {
+                    return Ok(Fate::Stops(Outcome::Holds { filter }));
+                };
+                given.push(verdict_in(came))?;
+                continue;
+            }
             Decision::Return(response) => return Ok(Fate::Back(response)),
             Decision::Shut(code) => Fate::Stops(Outcome::Shut { filter, code }),
         };
         match fate {
-            Fate::Back(came) => given.push(came)?,
+            Fate::Back(response) => given.push(Given::Back(response))?,
             Fate::Stops(outcome) => return Ok(Fate::Stops(outcome)),
         }
     }
     Ok(Fate::Stops(Outcome::NeverEnds))
+}
+
+// What came, to who waits for a verdict.
+fn verdict_in(came: Came) -> Given {
+    match came {
+        Came::Answer { .. } | Came::NoResponse => Given::Back(None),
+        Came::Verdict(said) => Given::Verdict(said),
+    }
 }
 
 // The next of what came, with its place.

@@ -39,8 +39,8 @@ pub enum Came {
     Answer { key: i16, version: i16 },
     /// The message gets no response, as a Produce with acks 0.
     NoResponse,
-    /// The verdict on a hold.
-    Verdict,
+    /// The verdict on a hold: its first byte, if it has one.
+    Verdict(Option<u8>),
 }
 
 /// A response on its way to the client.

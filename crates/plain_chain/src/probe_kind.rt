@@ -17,10 +17,37 @@ pub enum ProbeKind {
     Shuts,
     /// It shuts at Metadata of version 4 with code 3.
     ShutsMetadata,
+    /// It holds a Heartbeat of version 0. The first byte of the verdict is the error with which it answers. Without one it
+    /// forwards the request.
+    Heeds,
 }
 
-/// What a probe is given after its move. No response is `None`, and so is a verdict: no probe reads one.
-pub(crate) type Given = Option<Response>;
+/// What a probe is given after its move.
+#[derive(Clone, Copy, Debug, PartialEq, Eq)]
+pub(crate) enum Given {
+    /// What came back for its message: a response, or that there is none.
+    Back(Option<Response>),
+    /// The verdict on its hold: its first byte, if it has one.
+    Verdict(Option<u8>),
+}
+
+impl Given {
+    // A verdict is no response.
+    fn response(self) -> Option<Response> {
+        match self {
+            Given::Back(response) => response,
+            Given::Verdict(_) => None,
+        }
+    }
+
+    // What came in place of a verdict says nothing.
+    fn said(self) -> Option<u8> {
+        match self {
+            Given::Back(_) => None,
+            Given::Verdict(said) => said,
+        }
+    }
+}
 
 /// What a probe decides.
 #[derive(Clone, Copy, Debug, PartialEq, Eq)]
@@ -45,18 +72,37 @@ impl ProbeKind {
             ProbeKind::Holds(times) => asking(times, Decision::Hold, request, given),
             ProbeKind::Changes => match given {
                 [] => Decision::Forward(request),
-                [came, ..] => Decision::Return(came.map(changed)),
+                [came, ..] => Decision::Return(came.response().map(changed)),
             },
             ProbeKind::Answers if request.is_heartbeat() => {
                 Decision::Return(Some(Response::with_error(55)))
             }
             ProbeKind::Shuts => Decision::Shut(7),
             ProbeKind::ShutsMetadata if request.is_metadata() => Decision::Shut(3),
-            ProbeKind::Answers | ProbeKind::ShutsMetadata => match given {
-                [] => Decision::Forward(request),
-                [came, ..] => Decision::Return(*came),
-            },
+            ProbeKind::Heeds if request.is_heartbeat() => heeding(request, given),
+            ProbeKind::Answers | ProbeKind::ShutsMetadata | ProbeKind::Heeds => {
+                passing(request, given)
+            }
         }
+    }
+}
+
+// It forwards the request, and returns what comes back.
+fn passing(request: Message, given: &[Given]) -> Decision {
+    match given {
+        [] => Decision::Forward(request),
+        [came, ..] => Decision::Return(came.response()),
+    }
+}
+
+// It holds, answers with the first byte of the verdict, and passes the request where there is none.
+fn heeding(request: Message, given: &[Given]) -> Decision {
+    let Some((verdict, behind)) = given.split_first() else {
+        return Decision::Hold;
+    };
+    match verdict.said() {
+        Some(byte) => Decision::Return(Some(Response::with_error(i16::from(byte)))),
+        None => passing(request, behind),
     }
 }
 
@@ -68,7 +114,7 @@ fn asking(times: u8, question: Decision, request: Message, given: &[Given]) -> D
     }
     match given.get(times) {
         None => Decision::Forward(request),
-        Some(came) => Decision::Return(*came),
+        Some(came) => Decision::Return(came.response()),
     }
 }
 

@@ -9,6 +9,9 @@ use conn_core::Fault;
 use plain_chain::ProbeKind;
 use std::alloc::{AllocError, Global};
 
+// With different first bytes, the least and the greatest among them.
+const VERDICTS: [&[u8]; 4] = [b"yes", b"\0", b"\xff!", b"\x4d"];
+
 // Up to three probes.
 pub fn chain_by_chance(alloc: Global, random: &mut Random) -> Result<Vec<ProbeKind>, AllocError> {
     let mut chain = Vec::new(alloc);
@@ -20,14 +23,15 @@ pub fn chain_by_chance(alloc: Global, random: &mut Random) -> Result<Vec<ProbeKi
 
 fn kind_by_chance(random: &mut Random) -> ProbeKind {
     let times = [1, 2, 3, 0][random.one_of(4) & 3];
-    match random.one_of(24) {
+    match random.one_of(30) {
         0..5 => ProbeKind::AsksHeartbeat(times),
         5..9 => ProbeKind::AsksMetadata(times),
         9..14 => ProbeKind::Holds(times),
         14..18 => ProbeKind::Changes,
         18..21 => ProbeKind::Answers,
         21 => ProbeKind::Shuts,
-        _ => ProbeKind::ShutsMetadata,
+        22 | 23 => ProbeKind::ShutsMetadata,
+        _ => ProbeKind::Heeds,
     }
 }
 
@@ -115,7 +119,11 @@ fn hold_by_chance(plain: &Plain, random: &mut Random) -> Result<(usize, usize), 
 }
 
 fn verdict_by_chance(plain: &Plain, random: &mut Random) -> Result<Event, AllocError> {
-    let verdict: &[u8] = if random.chance(500) { b"yes" } else { b"" };
+    let verdict = if random.chance(500) {
+        VERDICTS[random.one_of(4) & 3]
+    } else {
+        b""
+    };
     let (request, index) = hold_by_chance(plain, random)?;
     Ok(Event::Complete {
         request: request as u64,

@@ -35,6 +35,7 @@ fn probe_of(kind: ProbeKind) -> Probe {
         ProbeKind::Answers => Probe::two_turns(1),
         ProbeKind::Shuts => Probe::two_turns(2),
         ProbeKind::ShutsMetadata => Probe::two_turns(3),
+        ProbeKind::Heeds => Probe::heeding(),
     }
 }
 

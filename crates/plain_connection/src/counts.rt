@@ -22,6 +22,16 @@ impl Counts {
         self.raise("answers that found their send", history.answered)?;
         self.raise("requests passed", history.passed)?;
         self.raise("holds picked", history.picked.len())?;
+        let (mut held, mut held_back) = (0usize, 0usize);
+        for request in &history.requests {
+            held = held.saturating_add(usize::from(request.was_held));
+            held_back = held_back.saturating_add(usize::from(request.held_another_back));
+        }
+        self.raise("requests held", held)?;
+        self.raise(
+            "requests held while one behind, never held, waited",
+            held_back,
+        )?;
         match history.over {
             Some(end) => self.raise(name_of(end), 1),
             None => self.raise("no end told", 1),

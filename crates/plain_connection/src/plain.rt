@@ -11,6 +11,9 @@ pub struct Request {
     // What came for it, and the bodies of the answers among it. What is no answer has an empty body.
     pub came: Vec<Came>,
     pub bodies: Vec<Vec<u8>>,
+    pub was_held: bool,
+    // While it was held, a later request, which never was, had to wait with its main send.
+    pub held_another_back: bool,
 }
 
 #[derive(Drop)]

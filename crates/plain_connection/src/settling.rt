@@ -15,7 +15,7 @@ impl Plain {
     pub fn settle(&mut self) -> Result<(), AllocError> {
         for _ in 0..10_000u32 {
             match self.next_act()? {
-                None => return Ok(()),
+                None => return self.note_holds(),
                 Some(Act::CutAt(request, why)) => self.cut_at(request, why),
                 Some(Act::Lists(send)) => self.list(send)?,
             }
@@ -52,6 +52,37 @@ impl Plain {
             free = free && (status.is_done() || self.has_main_listed(number));
         }
         Ok(None)
+    }
+
+    // Which requests are held, for the counts.
+    fn note_holds(&mut self) -> Result<(), AllocError> {
+        for number in 0..self.requests.len() {
+            if self.hold_of(number)?.is_some() {
+                let holds_back = self.holds_back_one(number)?;
+                if let Some(request) = self.requests.get_mut(number) {
+                    request.was_held = true;
+                    request.held_another_back = request.held_another_back || holds_back;
+                }
+            }
+        }
+        Ok(())
+    }
+
+    // Whether a request behind this one, which was never held, waits with its main send.
+    fn holds_back_one(&self, held: usize) -> Result<bool, AllocError> {
+        for (number, request) in self.requests.iter().enumerate() {
+            if number > held && !request.was_held && self.is_below_cut(number) {
+                match self.status(number)? {
+                    Some(Status::Sends { main: true, .. }) => {
+                        if !self.is_listed(number, request.came.len()) {
+                            return Ok(true);
+                        }
+                    }
+                    _ => {}
+                }
+            }
+        }
+        Ok(false)
     }
 
     // A send that gets no response counts as answered at once.

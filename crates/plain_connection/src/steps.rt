@@ -16,9 +16,11 @@ impl Plain {
         match event {
             Event::Take(sample, own_id) => self.take(*sample, *own_id),
             Event::Answer { id, body, whole } => self.answer(*id, body.as_slice(), *whole),
-            Event::Complete { request, index, .. } => {
-                self.complete(*request as usize, *index as usize)
-            }
+            Event::Complete {
+                request,
+                index,
+                verdict,
+            } => self.complete(*request as usize, *index as usize, verdict.first().copied()),
             Event::ClientEnd(rest) => Ok(self.client_end(*rest)),
             Event::BrokerEnd(rest) => Ok(self.broker_end(*rest)),
             Event::Fails(fault) => self.fails(*fault),
@@ -49,6 +51,8 @@ impl Plain {
                     own_id,
                     came,
                     bodies,
+                    was_held: false,
+                    held_another_back: false,
                 })?;
                 self.settle()?;
             }
@@ -96,11 +100,17 @@ impl Plain {
         Ok(Reply::Fine)
     }
 
-    fn complete(&mut self, request: usize, index: usize) -> Result<Reply, AllocError> {
+    // Of the verdict only the first byte is looked at, if it has one.
+    fn complete(
+        &mut self,
+        request: usize,
+        index: usize,
+        said: Option<u8>,
+    ) -> Result<Reply, AllocError> {
         if self.is_still() || self.hold_of(request)? != Some(index) {
             return Ok(Reply::Back);
         }
-        self.give(request, Came::Verdict, Vec::new(self.alloc))?;
+        self.give(request, Came::Verdict(said), Vec::new(self.alloc))?;
         self.settle()?;
         Ok(Reply::Fine)
     }

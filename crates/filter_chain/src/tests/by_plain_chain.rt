@@ -1,5 +1,5 @@
 // Chains of up to three probes, over all lists of up to six things that came, beside a plain program that works out
-// what becomes of the request.
+// what becomes of the request. Where a probe of the chain heeds its verdict, a verdict is empty or has a byte.
 use crate::{Outside, Run, ShutCause, State};
 use filter_core::Reason;
 use filter_probes::{Probe, Waits, heartbeat, heartbeat_error};
@@ -38,7 +38,17 @@ const CAME: [Came; 3] = [
         version: 0,
     },
     Came::NoResponse,
-    Came::Verdict,
+    Came::Verdict(Some(118)),
+];
+
+const CAME_TO_HEED: [Came; 4] = [
+    Came::Answer {
+        key: 12,
+        version: 0,
+    },
+    Came::NoResponse,
+    Came::Verdict(Some(118)),
+    Came::Verdict(None),
 ];
 
 const REQUEST: Message = Message::Own {
@@ -58,6 +68,7 @@ fn probe_of(kind: ProbeKind) -> Probe {
         ProbeKind::Answers => Probe::two_turns(1),
         ProbeKind::Shuts => Probe::two_turns(2),
         ProbeKind::ShutsMetadata => Probe::two_turns(3),
+        ProbeKind::Heeds => Probe::heeding(),
     }
 }
 
@@ -77,7 +88,8 @@ fn outside_of(alloc: Global, came: Came, place: usize) -> Result<Outside, NoMemo
     match came {
         Came::Answer { .. } => Ok(Outside::Answer(heartbeat_error(alloc, error_at(place))?)),
         Came::NoResponse => Ok(Outside::NoResponse),
-        Came::Verdict => Ok(Outside::Verdict(Blob::copy(alloc, b"v")?)),
+        Came::Verdict(Some(byte)) => Ok(Outside::Verdict(Blob::copy(alloc, &[byte, b'!'])?)),
+        Came::Verdict(None) => Ok(Outside::Verdict(Blob::copy(alloc, b"")?)),
     }
 }
 
@@ -162,27 +174,35 @@ fn is_alike(
     Ok(is_outcome(&state, want.outcome) && turns == u64::from(want.turns))
 }
 
-// The list with this number, of so many things: its digits in base three, the least first.
-fn list_of(alloc: Global, length: u32, number: u32) -> Result<Vec<Came>, NoMemory> {
+// The list with this number, of so many of these things: its digits, the least first.
+fn list_of(
+    alloc: Global,
+    things: &[Came],
+    length: u32,
+    number: usize,
+) -> Result<Vec<Came>, NoMemory> {
     let mut list = Vec::new(alloc);
     let mut rest = number;
     for _ in 0..length {
-        list.push(match rest % 3 {
-            0 => CAME[0],
-            1 => CAME[1],
-            _ => CAME[2],
-        })?;
-        rest /= 3;
+        let digit = rest.checked_rem(things.len()).unwrap_or(0);
+        if let Some(came) = things.get(digit) {
+            list.push(*came)?;
+        }
+        rest = rest.checked_div(things.len()).unwrap_or(0);
     }
     Ok(list)
 }
 
-// How many lists go as the plain program says under this chain. Where one doesn't, it is told.
-fn alike_lists(alloc: Global, kinds: &[ProbeKind]) -> Result<Result<u32, Vec<Came>>, NoMemory> {
+// How many lists of these things go as the plain program says under this chain. Where one doesn't, it is told.
+fn alike_lists(
+    alloc: Global,
+    kinds: &[ProbeKind],
+    things: &[Came],
+) -> Result<Result<u32, Vec<Came>>, NoMemory> {
     let mut count = 0u32;
     for length in 0..7u32 {
-        for number in 0..3u32.saturating_pow(length) {
-            let came = list_of(alloc, length, number)?;
+        for number in 0..things.len().saturating_pow(length) {
+            let came = list_of(alloc, things, length, number)?;
             let want = course_of(alloc, kinds, REQUEST, came.as_slice()).map_err(|_| NoMemory)?;
             if !is_alike(alloc, kinds, came.as_slice(), want)? {
                 return Ok(Err(came));
@@ -211,7 +231,16 @@ fn count_from(
 }
 
 fn count_alike(rt: &impl Abort, alloc: Global, chain: &[ProbeKind]) -> Result<u32, Fail> {
-    match alike_lists(alloc, chain).ok().ok_or("memory")? {
+    count_lists(rt, alloc, chain, &CAME)
+}
+
+fn count_lists(
+    rt: &impl Abort,
+    alloc: Global,
+    chain: &[ProbeKind],
+    things: &[Came],
+) -> Result<u32, Fail> {
+    match alike_lists(alloc, chain, things).ok().ok_or("memory")? {
         Ok(count) => Ok(count),
         Err(came) => {
             assert!(rt; false, "{chain:?} with {came:?}");
@@ -220,10 +249,47 @@ fn count_alike(rt: &impl Abort, alloc: Global, chain: &[ProbeKind]) -> Result<u3
     }
 }
 
+// The chains of two and of three that begin with these two.
+fn count_heeded(
+    rt: &impl Abort,
+    alloc: Global,
+    first: ProbeKind,
+    second: ProbeKind,
+) -> Result<u32, Fail> {
+    let mut count = count_lists(rt, alloc, &[first, second], &CAME_TO_HEED)?;
+    for third in KINDS {
+        let chain = [first, second, third];
+        count = count.saturating_add(count_lists(rt, alloc, &chain, &CAME_TO_HEED)?);
+    }
+    let chain = [first, second, ProbeKind::Heeds];
+    Ok(count.saturating_add(count_lists(rt, alloc, &chain, &CAME_TO_HEED)?))
+}
+
+// The chains of two and of three that begin with one of these, and in which a probe behind it heeds.
+fn count_heeded_behind(
+    rt: &impl Abort,
+    alloc: Global,
+    firsts: [ProbeKind; 3],
+) -> Result<u32, Fail> {
+    let mut count = 0u32;
+    for first in firsts {
+        count = count.saturating_add(count_heeded(rt, alloc, first, ProbeKind::Heeds)?);
+        for second in KINDS {
+            let chain = [first, second, ProbeKind::Heeds];
+            count = count.saturating_add(count_lists(rt, alloc, &chain, &CAME_TO_HEED)?);
+        }
+    }
+    Ok(count)
+}
+
 // Under each chain there are 1,093 lists. The chains are 259: one without a filter, six of one, and twelve times 21 of two or three.
 const LISTS: u32 = 1_093;
 
 const HALF: u32 = 21 * LISTS;
+
+// With two verdicts there are 5,461 lists. A probe heeds in 141 chains: it stands first in 57 of them, and behind another
+// in 84.
+const HEEDED_LISTS: u32 = 5_461;
 
 #[test]
 fn none_or_one(rt: HostRuntime) -> Result<(), Fail> {
@@ -339,6 +405,35 @@ fn a_shut_and_another(rt: HostRuntime) -> Result<(), Fail> {
     assert_eq!(rt;
         count_from(&rt, rt.alloc(), ProbeKind::ShutsMetadata, OTHERS)?,
         HALF
+    );
+    Ok(())
+}
+
+#[test]
+fn a_heed_and_any_other(rt: HostRuntime) -> Result<(), Fail> {
+    let mut count = count_lists(&rt, rt.alloc(), &[ProbeKind::Heeds], &CAME_TO_HEED)?;
+    for second in KINDS {
+        count = count.saturating_add(count_heeded(&rt, rt.alloc(), ProbeKind::Heeds, second)?);
+    }
+    let twice = count_heeded(&rt, rt.alloc(), ProbeKind::Heeds, ProbeKind::Heeds)?;
+    assert_eq!(rt; count.saturating_add(twice), 57 * HEEDED_LISTS);
+    Ok(())
+}
+
+#[test]
+fn who_asks_and_a_heed(rt: HostRuntime) -> Result<(), Fail> {
+    assert_eq!(rt;
+        count_heeded_behind(&rt, rt.alloc(), ASKING)?,
+        42 * HEEDED_LISTS
+    );
+    Ok(())
+}
+
+#[test]
+fn another_and_a_heed(rt: HostRuntime) -> Result<(), Fail> {
+    assert_eq!(rt;
+        count_heeded_behind(&rt, rt.alloc(), OTHERS)?,
+        42 * HEEDED_LISTS
     );
     Ok(())
 }
