@@ -11,13 +11,23 @@ use std::test::*;
 
 mod by_addresses;
 mod by_bodies;
+mod by_brokers;
 mod by_clusters;
 mod by_ends;
+mod by_exists;
 mod by_files;
+mod by_filters;
+mod by_greatest_blocks;
+mod by_groups;
 mod by_holds;
+mod by_least_blocks;
+mod by_narrow;
+mod by_policy;
+mod by_produce_all;
 mod by_room;
 mod by_silence;
 mod by_streams;
+mod by_topic_deny;
 
 // A script that is read to its end, in parts. Each line stands before its answer.
 struct Exchange {

@@ -3,7 +3,7 @@ use super::by_holds::HOLDS_OVER;
 use super::*;
 
 // A cluster of one node, named `lab`. Other keys may stand behind it.
-const LAB: &str =
+pub(crate) const LAB: &str =
     "version = 1\n[[cluster]]\nname = \"lab\"\nlisten = \"127.0.0.1\"\nadvertise = \"p\"\nbootstrap = \"b:9092\"\nnodes = [\"b:9092\"]\n";
 
 const PORTS: &str = "port = 19092\nfirst_node = 0\n";
@@ -266,16 +266,21 @@ fn ran_over(
     ran_with(alloc, words, script, piece, faults, &mut files)
 }
 
-fn lab_with(alloc: Global, keys: &str) -> Result<String, Fail> {
-    let mut text = String::from_str(alloc, LAB)?;
+fn file_of(alloc: Global, lab: &str, keys: &str) -> Result<String, Fail> {
+    let mut text = String::from_str(alloc, lab)?;
     text.push_str(keys)?;
     Ok(text)
 }
 
-// How the first exchange that goes another way over its cluster differs. No text where none differs.
-fn first_other_over(alloc: Global, table: &[Over]) -> Result<String, Fail> {
+fn lab_with(alloc: Global, keys: &str) -> Result<String, Fail> {
+    file_of(alloc, LAB, keys)
+}
+
+// How the first exchange that goes another way over its cluster differs. The cluster has these keys, and those of the
+// exchange. No text where none differs.
+pub(crate) fn first_other_over(alloc: Global, lab: &str, table: &[Over]) -> Result<String, Fail> {
     for over in table {
-        let file = lab_with(alloc, over.keys)?;
+        let file = file_of(alloc, lab, over.keys)?;
         let (script, text) = script_of(alloc, &over.exchange)?;
         let name = over.exchange.name;
         for piece in [1, 7, 4096] {
@@ -296,14 +301,14 @@ fn first_other_over(alloc: Global, table: &[Over]) -> Result<String, Fail> {
 
 #[test]
 fn exchanges_over_a_cluster(rt: HostRuntime) -> Result<(), Fail> {
-    let other = first_other_over(rt.alloc(), CLUSTERS)?;
+    let other = first_other_over(rt.alloc(), LAB, CLUSTERS)?;
     assert_eq!(rt; other.as_str(), "");
     Ok(())
 }
 
 #[test]
 fn holds_over_a_cluster(rt: HostRuntime) -> Result<(), Fail> {
-    let other = first_other_over(rt.alloc(), HOLDS_OVER)?;
+    let other = first_other_over(rt.alloc(), LAB, HOLDS_OVER)?;
     assert_eq!(rt; other.as_str(), "");
     Ok(())
 }
