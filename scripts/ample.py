@@ -11,7 +11,7 @@ import sys
 from binascii import hexlify
 
 from message_bodies import MOST_ENTRIES
-from replay_model import BROKER_SIZES, CLIENT_SIZES, HELD, IN_FLIGHT, LONGEST_LINE, LONGEST_VERDICT, replayed, sized
+from replay_model import BROKER_SIZES, CLIENT_SIZES, HELD, IN_FLIGHT, LONGEST_LINE, LONGEST_VERDICT, MOST_OUT, replayed, sized
 from running import Cases, program, shown, status_text
 
 SECONDS = 60  # that a run may take
@@ -275,6 +275,25 @@ def greatest_response():
     yield b"emit"
 
 
+def addressed(size, before):
+    """An answer to Metadata of this size, behind so many Heartbeats that are answered too. Its one broker has an empty host,
+    in whose place "localhost" stands, so the response has nine bytes more."""
+    behind_last = signed(0) + signed(-1, 2)  # the port, and no rack
+    broker = signed(1) + signed(0) + signed(0, 2) + behind_last
+    each = 2 + 2 + 1 + 4  # of a topic, without its name
+    count, last = divmod(size - 4 - len(broker) - 4 - 4 - each, each + 32_767)
+    lengths = [32_767] * count + [last]
+    entries = [signed(0, 2) + text(length, index) + b"\0" + signed(0) for index, length in enumerate(lengths)]
+    body = broker + signed(0) + signed(len(entries)) + b"".join(entries)
+    metadata = sized(METADATA_1 + own_id(before) + signed(-1, 2) + signed(-1))
+    yield piece("client", b"".join(request(index, 20) for index in range(before)) + metadata)
+    yield from [b"send"] * (before + 1)
+    answers = b"".join(answer(index, HEARTBEAT_ANSWER) for index in range(before))
+    yield from pieces("broker", answers + sized(before.to_bytes(4, "big") + body), LONGEST_LINE // 4)
+    yield piece("client", request(before + 1, 20))
+    yield from [b"emit"] * (before + 2)
+
+
 def longest_line():
     """A line of 268,435,455 bytes, the most that whole digits give, with the greatest frame and more."""
     most = (LONGEST_LINE - len("client ")) // 2
@@ -415,6 +434,9 @@ def ordinary_cases():
     yield "one byte a piece", piece_sizes([1], 70_001)
     yield "pieces of odd sizes", piece_sizes([251, 4_095, 32_767, 32_769, 65_535, 65_537, 1_000_003], 1_234_567)
     yield "the greatest response", greatest_response()
+    for size in (MOST_OUT - 9, MOST_OUT - 8, MOST_OUT):
+        yield f"a response that grows from {size:,} bytes", addressed(size, 0)
+    yield "a response that grows by one byte too many, behind two others", addressed(MOST_OUT - 8, 2)
     yield "the longest line", longest_line()
     yield "the longest verdict", longest_verdict(LONGEST_VERDICT)
     yield "a verdict past its limit", longest_verdict(LONGEST_VERDICT + 1)

@@ -13,6 +13,8 @@ SOURCE = TOP / "crates" / "kp_edge" / "src" / "end.rt"
 SPEC = TOP / "crates" / "kp_edge" / "specs" / "End.antt"
 PAGE = TOP / "docs" / "ENDS.md"
 EXAMPLES = TOP / "examples"
+AT_GREAT_SIZES = "in check_ample"  # its scripts are too large for an example
+MODEL = TOP / "scripts" / "replay_model.py"  # what check_ample compares with
 KINDS = ("cut", "death", "halt")
 
 
@@ -83,7 +85,7 @@ def in_spec():
 
 class Row(NamedTuple):
     end: End
-    today: bool
+    today: str
 
 
 def in_page():
@@ -94,7 +96,7 @@ def in_page():
         text = cells[1].strip("`")
         fields = tuple(re.findall(r"(\w+)=[NK]\b", text))
         end = End(cells[0].strip("`"), fields, cells[3], re.sub(r"=[NK]\b", "=N", text))
-        yield Row(end, cells[5] == "yes")
+        yield Row(end, cells[5])
 
 
 def shown():
@@ -122,11 +124,17 @@ def differences():
     for end, other in zip(source, spec):
         if end.name == other.name and end.fields != other.fields:
             yield f"{SPEC.name}: the numbers of {end.name} stand in another order"
-    said, seen = {row.end.text for row in page if row.today}, set(shown())
+    said, seen = {row.end.text for row in page if row.today == "yes"}, set(shown())
     for text in sorted(said - seen):
         yield f"{PAGE.name}: `{text}` comes today, and no example shows it"
     for text in sorted(seen - said):
         yield f"{PAGE.name}: an example shows `{text}`, which does not come today"
+    for row in page:
+        word = row.end.text.split()[0]
+        if row.today == AT_GREAT_SIZES and f'f"{word} ' not in MODEL.read_text():
+            yield f"{PAGE.name}: `{word}` comes {AT_GREAT_SIZES}, and {MODEL.name} does not know it"
+        if row.today not in ("yes", "no", AT_GREAT_SIZES):
+            yield f"{PAGE.name}: `{word}` has {row.today!r} in its last column"
 
 
 def main():

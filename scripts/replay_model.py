@@ -14,6 +14,7 @@ from message_bodies import BadBody, read_body, served_versions
 
 CLIENT_SIZES = range(8, 104_857_600 + 1)
 BROKER_SIZES = range(4, 134_217_728 + 1)
+MOST_OUT = 134_217_728  # of a frame that goes out, without its size
 IN_FLIGHT = 16
 HELD = 209_715_200
 LONGEST_LINE = 268_435_456
@@ -248,6 +249,8 @@ class Connection:
             body, stray = addressed(body, key, version)
             if stray is not None:
                 self.cut = request, f"node-out-of-range request={request} node={stray}"
+            elif len(body) + 4 > MOST_OUT:
+                self.cut = request, f"grown-past request={request} size={len(body) + 4}"
             else:
                 self.requests[request].body = narrowed(body, self.supported) if key == API_VERSIONS else body
 
