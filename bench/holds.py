@@ -13,7 +13,7 @@ from replay import MOST_GROWTH, verdict
 from timing import compared, least_in_turns
 
 IN_FLIGHT = 1, 64
-MANY = 99_840  # requests, in whole rounds of 64
+MANY = 640_000  # requests: 10,000 rounds of 64
 AT_A_TIME = {"at once": (MANY, 1), "in ten connections": (MANY // 10, 10)}  # of each run, and how many runs
 STARTS = 100
 
