@@ -8,7 +8,9 @@ import os
 import random
 import subprocess
 import sys
+import tempfile
 from binascii import hexlify
+from pathlib import Path
 
 from message_bodies import MOST_ENTRIES
 from replay_model import BROKER_SIZES, CLIENT_SIZES, HELD, IN_FLIGHT, LONGEST_LINE, LONGEST_VERDICT, MOST_OUT, replayed, sized
@@ -26,6 +28,7 @@ METADATA_1 = bytes.fromhex("0003 0001")
 API_VERSIONS_2 = bytes.fromhex("0012 0002")
 API_VERSIONS_3 = bytes.fromhex("0012 0003")
 PRODUCE_3 = bytes.fromhex("0000 0003")
+PRODUCE_8 = bytes.fromhex("0000 0008")
 # The sizes of the least requests of the first two, with a null client id and empty texts, and of their least answers.
 LEAST_HEARTBEAT, HEARTBEAT_ANSWER = 18, 6
 LEAST_SYNC_GROUP, LEAST_ANSWER = 28, 10
@@ -294,6 +297,45 @@ def addressed(size, before):
     yield from [b"emit"] * (before + 2)
 
 
+DENYING = """version = 1
+[[cluster]]
+name = "lab"
+listen = "127.0.0.1"
+advertise = "127.0.0.1"
+port = 19092
+first_node = 0
+bootstrap = "127.0.0.1:9092"
+nodes = ["127.0.0.1:9092"]
+filters = ["topic-deny:{name}"]
+"""
+
+
+def denied(partitions, length):
+    """A Produce request (version 8) of one topic with a name of this length, without records in so many partitions, and the
+    response to it where the topic is denied, which makes 36 bytes of each partition's eight. Also the name."""
+    name = text(length, 0)
+    indexes = [signed(index) for index in range(partitions)]
+    parts = b"".join(index + signed(-1) for index in indexes)
+    asked = signed(-1, 2) + signed(1, 2) + signed(100) + signed(1) + name + signed(partitions) + parts
+    # TOPIC_AUTHORIZATION_FAILED (29); base_offset, log_append_time_ms and log_start_offset; no errors of records, no message
+    refusal = signed(29, 2) + signed(-1, 8) * 3 + signed(0) + signed(-1, 2)
+    told = signed(1) + name + signed(partitions) + b"".join(index + refusal for index in indexes) + signed(0)
+    return sized(PRODUCE_8 + own_id(0) + signed(-1, 2) + asked), sized(own_id(0) + told), name[2:].decode()
+
+
+def denied_complaint(path, length):
+    """What is wrong with the answer to 3,728,269 denied partitions. With 26 bytes in the topic's name it has the greatest size."""
+    asked, told, name = denied(3_728_269, length)
+    size = len(told) - 4
+    last = b"to-client " + hexlify(told) if size <= MOST_OUT else f"over grown-past request=0 size={size}".encode()
+    with file_in_memory("script") as script, tempfile.TemporaryDirectory() as folder:
+        config = Path(folder, "denying.toml")
+        config.write_text(DENYING.format(name=name))
+        for line in (piece("client", asked), b"emit"):
+            script.write(line + b"\n")
+        return complaint_of([path, "replay", str(config), "lab"], script, [b"ok", last], 0)
+
+
 def longest_line():
     """A line of 268,435,455 bytes, the most that whole digits give, with the greatest frame and more."""
     most = (LONGEST_LINE - len("client ")) // 2
@@ -517,12 +559,12 @@ def file_in_memory(name):
     return os.fdopen(os.memfd_create(name), "w+b")
 
 
-def complaint(path, lines):
-    with file_in_memory("script") as script, file_in_memory("written") as written:
-        *wanted, status = replayed(copied(lines, script))
+def complaint_of(command, script, wanted, status):
+    """What is wrong with what a command writes for this script."""
+    with file_in_memory("written") as written:
         script.seek(0)
         try:
-            found = subprocess.run([path, "replay"], stdin=script, stdout=written, timeout=SECONDS).returncode
+            found = subprocess.run(command, stdin=script, stdout=written, timeout=SECONDS).returncode
         except subprocess.TimeoutExpired:
             return f"it had not ended after {SECONDS} seconds"
         written.seek(0)
@@ -532,12 +574,20 @@ def complaint(path, lines):
     return differs
 
 
+def complaint(path, lines):
+    with file_in_memory("script") as script:
+        *wanted, status = replayed(copied(lines, script))
+        return complaint_of([path, "replay"], script, wanted, status)
+
+
 def main():
     path = program(is_wrapped=False)
     cases = Cases("check_ample")
     for make in (ordinary_cases, end_cases, body_cases):
         for name, lines in make():
             cases.note(name, complaint(path, lines))
+    for length in (26, 27):
+        cases.note(f"3,728,269 partitions of a denied topic with {length} bytes in its name", denied_complaint(path, length))
     return cases.status()
 
 
