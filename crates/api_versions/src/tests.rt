@@ -4,6 +4,8 @@ use kp_schema::Dir;
 use std::test::*;
 use tree_codec::{decode, encode};
 
+mod ample;
+
 // Correlation ids, and their refusals byte by byte.
 const REFUSALS: [(i32, [u8; 20]); 4] = [
     (

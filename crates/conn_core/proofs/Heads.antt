@@ -11,10 +11,10 @@ use Rattle.kp_schema.specs.Messages.{is_supported}
 use Rattle.tree_spelling.specs.Shape.{message_shape}
 use Rattle.tree_spelling.specs.Decoded.{decoded, AllItems}
 use Rattle.tree_spelling.specs.Body.{Contents}
-use Rattle.framing.specs.Heads.{has_client_id}
+use Rattle.framing.specs.Heads.{has_client_id, client_id_length, client_id_spelled, request_body}
 use Rattle.framing.specs.RequestStarts.{request_key, request_version}
 use Rattle.api_versions.specs.Refusal.{api_versions_key}
-use Rattle.conn_core.specs.Requests.{client_id_length, client_id_spelled, is_told_versions, request_body, request_decoded, body_cause, frame_cause, request_of, items_read}
+use Rattle.conn_core.specs.Requests.{is_told_versions, request_decoded, body_cause, frame_cause, request_of, items_read}
 use Rattle.conn_core.specs.Kinds.{HasHead}
 
 unless : (a b : Bool) → b ≡ true → (a && not b) ≡ false

@@ -3,3 +3,4 @@ pub mod Silence
 pub mod Heads
 pub mod Progress
 pub mod Spelled
+pub mod OwnEnds

@@ -15,9 +15,9 @@ use Rattle.tree_spelling.specs.Laws.{AreBytes}
 use Rattle.tree_spelling.specs.Spelling.{spelling}
 use Rattle.tree_spelling.specs.Decoded.{Decoded, decoded, AllItems, BadAt, TooManyAt}
 use Rattle.tree_spelling.proofs.Decoding.{decoded_is_spelled}
-use Rattle.framing.specs.Heads.{has_client_id}
+use Rattle.framing.specs.Heads.{has_client_id, request_body, client_id_length, client_id_spelled}
 use Rattle.framing.specs.RequestStarts.{request_key, request_version}
-use Rattle.conn_core.specs.Requests.{is_told_versions, body_cause, request_body, request_decoded, client_id_length, client_id_spelled, items_read, answer_decoded, answer_cause}
+use Rattle.conn_core.specs.Requests.{is_told_versions, body_cause, request_decoded, items_read, answer_decoded, answer_cause}
 use Rattle.conn_core.specs.Spelled.{PassesAsItCame, AnswersPassAsTheyCame}
 
 -- ---- bodies

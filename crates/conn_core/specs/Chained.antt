@@ -21,7 +21,8 @@ use Rattle.filter_chain.specs.Outcomes.{Outcome, Needs, Completed, Shuts, NeverE
 use Rattle.conn_rules.specs.Meaning.{Meaning, ToBroker, Hold, Status, Waits, Done, Fails}
 use Rattle.conn_rules.specs.State.{Outside, Body, NoResponse, Verdict}
 use Rattle.conn_rules.specs.Room.{limited}
-use Rattle.conn_core.specs.Requests.{client_id_spelled, request_of, is_silent, is_told_versions, versions_told, frame_cause, answer_cause, answer_decoded, response_read}
+use Rattle.framing.specs.Heads.{client_id_spelled}
+use Rattle.conn_core.specs.Requests.{request_of, is_silent, is_told_versions, versions_told, frame_cause, answer_cause, answer_decoded, response_read}
 
 -- ---- what a request is given
 

@@ -1,14 +1,14 @@
 -- What a client's frame is by its head, as the code tells it.
 use Rattle.std.specs.Prelude.{◌≡◌, ◌+◌, ◌≤◌, List, ℕ, ℤ, length, true, false, Some, None}
 use Rattle.framing.specs.RequestStarts.{request_key, request_version, request_number}
-use Rattle.framing.specs.Heads.{has_client_id}
+use Rattle.framing.specs.Heads.{has_client_id, client_id_length}
 use Rattle.kp_schema.specs.Messages.{is_supported}
 use Rattle.serving.specs.Causes.{why_of}
 use Rattle.conn_core.specs.declared.kinds.FrameKind.{FrameKind}
 use Rattle.conn_core.specs.declared.kinds.FrameKind.TheVariants as kind
 use Rattle.conn_core.specs.declared.opening.Opened.{Opened}
 use Rattle.conn_core.specs.declared.opening.Opened.TheVariants as opened
-use Rattle.conn_core.specs.Requests.{is_told_versions, client_id_length, request_of, frame_cause}
+use Rattle.conn_core.specs.Requests.{is_told_versions, request_of, frame_cause}
 use Rattle.conn_core.specs.Underway.{IsEnvelopeOf}
 
 -- the frame has a good head, with this key and this version, and its body begins at this place

@@ -3,3 +3,4 @@ pub mod Chained
 pub mod Underway
 pub mod Kinds
 pub mod Spelled
+pub mod AnswerBodies

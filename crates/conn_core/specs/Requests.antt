@@ -6,8 +6,6 @@ use Rattle.kp_edge.specs.declared.end.End.{End}
 use Rattle.kp_edge.specs.declared.end.End.TheVariants as end
 use Rattle.kp_schema.specs.declared.dir.Dir.TheVariants as dir
 use Rattle.kp_schema.specs.Messages.{is_supported}
-use Rattle.wire_types.specs.Numbers.{int16_at}
-use Rattle.wire_types.specs.Reading.{need}
 use Rattle.tree_spelling.specs.declared.primitive.Primitive.{Primitive}
 use Rattle.tree_spelling.specs.Shape.{message_shape}
 use Rattle.tree_spelling.specs.Body.{Contents}
@@ -15,23 +13,11 @@ use Rattle.tree_spelling.specs.Decoded.{Decoded, decoded, AllItems, BadAt, TooMa
 use Rattle.framing.specs.Frames.{sized}
 use Rattle.framing.specs.CorrelationIds.{request_id}
 use Rattle.framing.specs.RequestStarts.{request_key, request_version}
-use Rattle.framing.specs.Heads.{has_client_id}
+use Rattle.framing.specs.Heads.{has_client_id, request_body}
 use Rattle.api_versions.specs.Refusal.{api_versions_key, refusal_body}
 use Rattle.filter_core.specs.Acks.{has_acks_zero}
 
 -- ---- the parts of a frame
-
--- how many bytes the client id takes, which stands behind the correlation id
-abbrev pub client_id_length : List ℕ → ℕ
-client_id_length frame = need 2 (int16_at (drop 8 frame))
-
--- the client id as it is spelled, a STRING
-abbrev pub client_id_spelled : List ℕ → List ℕ
-client_id_spelled frame = take (client_id_length frame) (drop 8 frame)
-
--- the body of a request: what follows its client id
-abbrev pub request_body : List ℕ → List ℕ
-request_body frame = drop (client_id_length frame) (drop 8 frame)
 
 -- what it is decoded to, as the body of its own key and version
 abbrev pub request_decoded : List ℕ → Decoded

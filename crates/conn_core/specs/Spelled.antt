@@ -4,7 +4,8 @@ use Rattle.wire_types.specs.Numbers.{int16}
 use Rattle.tree_spelling.specs.Laws.{AreBytes}
 use Rattle.tree_spelling.specs.Spelling.{spelling}
 use Rattle.framing.specs.RequestStarts.{request_key, request_version}
-use Rattle.conn_core.specs.Requests.{is_told_versions, frame_cause, answer_decoded, answer_cause, client_id_spelled, request_of, items_read}
+use Rattle.framing.specs.Heads.{client_id_spelled}
+use Rattle.conn_core.specs.Requests.{is_told_versions, frame_cause, answer_decoded, answer_cause, request_of, items_read}
 
 -- The parts of which the message of a request is made are those of the request's own frame, but for the correlation id.
 abbrev pub PassesAsItCame : Type 0

@@ -1,6 +1,7 @@
 -- What the code keeps of a request that waits, and how it tells the connection where a request stands.
 use Rattle.std.specs.Prelude.{◌≡◌, ℕ, Bool, false, List, map}
 use Rattle.tree_spelling.specs.Body.{Contents}
+use Rattle.tree_spelling.specs.Spelling.{spelling}
 use Rattle.framing.specs.CorrelationIds.{request_id}
 use Rattle.filter_core.specs.declared.input.Input.{Input}
 use Rattle.filter_core.specs.Decision.{Turn}
@@ -17,10 +18,12 @@ use Rattle.serving.specs.Services.{IsDone, awaits_answer_to}
 use Rattle.serving.specs.declared.progress.Progress.{Progress}
 use Rattle.serving.specs.declared.progress.Progress.TheVariants as progress
 use Rattle.conn_core.specs.declared.envelope.Envelope.{Envelope}
+use Rattle.conn_core.specs.declared.answer_body.AnswerBody.{AnswerBody}
 use Rattle.conn_core.specs.declared.chain_run.Asked.{Asked}
 use Rattle.conn_core.specs.declared.chain_run.Asked.TheVariants as asked
 use Rattle.conn_core.specs.declared.chain_run.ChainRun.{ChainRun}
-use Rattle.conn_core.specs.Requests.{client_id_spelled, request_of, is_silent, is_told_versions}
+use Rattle.framing.specs.Heads.{client_id_spelled}
+use Rattle.conn_core.specs.Requests.{request_of, is_silent, is_told_versions}
 use Rattle.conn_core.specs.Chained.{given_to, chain_outcome}
 
 -- the envelope is that of the request in this frame
@@ -34,6 +37,10 @@ abbrev pub IsAskedBy : Asked → Ask → Type 0
 IsAskedBy (asked.Response key version) (ask.Broker message main) = (key ≡ message.key) × (version ≡ message.version)
 IsAskedBy asked.Verdict (ask.Hold filter key) = Unit {0}
 IsAskedBy _ _ = ⊥
+
+-- the bytes that an answer was read from
+abbrev pub answer_bytes : AnswerBody → List ℕ
+answer_bytes answer = spelling answer.body.items
 
 -- the run is that of the request in this frame, which was given so much
 pub record IsUnderway {F P : Type 0} (turn : F → Turn) (stands : F → P → Contents → List Input → Type 0) (filters : List F) (r : ChainRun P) (frame : List ℕ) (given : List Outside) : Type 0 where

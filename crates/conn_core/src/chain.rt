@@ -1,14 +1,15 @@
-ghost use Rattle.std.specs.Prelude.{◌≡◌, ◌≤◌, ◌++◌, ◌∷◌, [], ℕ, List, length, IfOk};
+ghost use Rattle.std.specs.Prelude.{◌≡◌, ◌≤◌, ◌++◌, ◌∷◌, [], ℕ, List, length, IfOk, OnOk};
 ghost use Rattle.conn_rules.specs.Meaning.{Meaning};
 ghost use Rattle.conn_rules.specs.State.{Outside};
-ghost use Rattle.serving.specs.Services.{Begins, IsProgress, outside_of, cause_function, progress_left};
+ghost use Rattle.serving.specs.Services.{Begins, IsProgress, CountsOn, outside_of, IsRead, progress_remaining};
 ghost use Rattle.conn_core.specs.Requests.{is_told_versions, versions_told};
 
+use crate::answer_body::AnswerBody;
 use crate::chain_run::ChainRun;
 use crate::kinds::{FrameKind, kind_of};
 use crate::opening::{Opened, open};
+use crate::read_answer::read_answer;
 use crate::telling::tell;
-use crate::unreadable::answer_cause;
 use api_versions::refusal;
 use bytes::Bytes;
 use filter_chain::Run;
@@ -26,17 +27,21 @@ pub struct Chain<F: Drop> {
 
 impl<F: Filter + Drop> Service for Chain<F> {
     ghost use Rattle.std.specs.Prelude.{map};
-    ghost use Rattle.filter_chain.specs.RunStates.{budget_left};
+    ghost use Rattle.filter_chain.specs.RunStates.{budget_unused};
     ghost use Rattle.conn_core.specs.Chained.{chain_meaning};
-    ghost use Rattle.conn_core.specs.Underway.{IsUnderway};
+    ghost use Rattle.conn_core.specs.Underway.{IsUnderway, answer_bytes};
 
     type Run = ChainRun<F::Pending>;
+
+    type Answer = AnswerBody;
 
     ghost meaning = { λ chain. chain_meaning (map F.turn chain.filters.items) };
 
     ghost stands = { λ chain. IsUnderway F.turn F.stands chain.filters.items };
 
-    ghost left = { λ _ run. budget_left run.run };
+    ghost read_from = { λ _. answer_bytes };
+
+    ghost remaining = { λ _ run. budget_unused run.run };
 
     fn begin<L>(
         &self,
@@ -53,11 +58,11 @@ impl<F: Filter + Drop> Service for Chain<F> {
                     let silent = envelope.silent;
                     let state = Run::start(self.alloc, self.filters.as_slice(), request, steps)?;
                     let progress = tell(envelope, state)?;
-                    Ok(Begun::Runs { silent, progress })
+                    Ok(Begun::Request { silent, progress })
                 }
-                Opened::NoRequest(cause) => Ok(Begun::Refused(cause)),
+                Opened::NoRequest(cause) => Ok(Begun::NoRequest(cause)),
             },
-            FrameKind::ToldVersions { correlation_id } => Ok(Begun::Runs {
+            FrameKind::ToldVersions { correlation_id } => Ok(Begun::Request {
                 silent: false,
                 progress: Progress::Done(Some(tell_versions(
                     self.alloc,
@@ -66,19 +71,24 @@ impl<F: Filter + Drop> Service for Chain<F> {
                 )?)),
             }),
             FrameKind::Unsupported { key, version } => {
-                Ok(Begun::Refused(Cause::UnsupportedApi { key, version }))
+                Ok(Begun::NoRequest(Cause::UnsupportedApi { key, version }))
             }
-            FrameKind::BadHead => Ok(Begun::Refused(Cause::BadHead)),
+            FrameKind::BadHead => Ok(Begun::NoRequest(Cause::BadHead)),
         }
     }
 
     fn go_on<L>(
         &self,
         run: ChainRun<F::Pending>,
-        given: Given,
+        given: Given<AnswerBody>,
         steps: &mut Steps<L>,
-    ) -> Result<Progress<ChainRun<F::Pending>>, NoMemory> {
-        let outside = run.asked.taken(self.alloc, given)?;
+    ) -> Result<Progress<ChainRun<F::Pending>>, NoMemory>
+        ensures right { IfOk result (λ progress. (frame : List ℕ) (before : List Outside) → IsUnderway F.turn F.stands self.now.filters.items run frame before
+            → IsProgress (chain_meaning (map F.turn self.now.filters.items)) (IsUnderway F.turn F.stands self.now.filters.items) frame (before ++ outside_of answer_bytes given ∷ []) progress) }
+        ensures counted { OnOk result (CountsOn (chain_meaning (map F.turn self.now.filters.items)) (IsUnderway F.turn F.stands self.now.filters.items) run (outside_of answer_bytes given) steps.old steps.new) }
+        ensures fewer { IfOk result (λ progress. progress_remaining (λ (kept : ChainRun F.Pending). budget_unused kept.run) progress ≤ budget_unused run.run) }
+    {
+        let outside = run.asked.taken(given)?;
         let envelope = run.envelope;
         let state = run
             .run
@@ -86,10 +96,8 @@ impl<F: Filter + Drop> Service for Chain<F> {
         tell(envelope, state)
     }
 
-    fn unreadable(&self, before: [u8; 4], body: &[u8]) -> Result<Option<Cause>, NoMemory> {
-        let key = i16::from_be_bytes([before[0], before[1]]);
-        let version = i16::from_be_bytes([before[2], before[3]]);
-        answer_cause(self.alloc, key, version, body)
+    fn read(&self, before: [u8; 4], body: Bytes) -> Result<Result<AnswerBody, Cause>, NoMemory> {
+        read_answer(self.alloc, before, body)
     }
 }
 

@@ -4,16 +4,13 @@ ghost use Rattle.filter_chain.specs.Outcomes.{Needs};
 ghost use Rattle.serving.specs.Services.{outside_of};
 ghost use Rattle.conn_core.specs.Chained.{taken_as};
 ghost use Rattle.conn_rules.specs.State.{Body};
-ghost use Rattle.conn_core.specs.Underway.{IsAskedBy};
+ghost use Rattle.conn_core.specs.Underway.{IsAskedBy, answer_bytes};
 
+use crate::answer_body::AnswerBody;
 use crate::envelope::Envelope;
-use bytes::Bytes;
 use filter_chain::{Outside, Run};
 use kp_edge::NoMemory;
-use kp_schema::Dir;
 use serving::Given;
-use std::alloc::Global;
-use tree_codec::decode;
 
 /// A request that waits for what its chain asked outside.
 #[derive(Drop)]
@@ -33,26 +30,27 @@ pub(crate) enum Asked {
 }
 
 impl Asked {
-    /// What came, as the chain is given it. The body of a response is one that can be read.
-    pub(crate) fn taken(self, alloc: Global, given: Given) -> Result<Outside, NoMemory>
-        ensures { IfOk result (λ came. (question : Ask) → IsAskedBy self question → came ≡ taken_as (Needs question) (outside_of given)) }
+    /// What came, as the chain is given it.
+    pub(crate) fn taken(self, given: Given<AnswerBody>) -> Result<Outside, NoMemory>
+        ensures { IfOk result (λ came. (question : Ask) → IsAskedBy self question → came ≡ taken_as (Needs question) (outside_of answer_bytes given)) }
     {
         match given {
-            Given::Body(bytes) => self.read(alloc, bytes),
+            Given::Answer(answer) => self.answered(answer),
             Given::NoResponse => Ok(Outside::NoResponse),
             Given::Verdict(verdict) => Ok(Outside::Verdict(verdict)),
         }
     }
 
-    fn read(self, alloc: Global, bytes: Bytes) -> Result<Outside, NoMemory>
-        ensures { IfOk result (λ came. (question : Ask) → IsAskedBy self question → came ≡ taken_as (Needs question) (Body bytes)) }
+    // An answer to another message never comes.
+    fn answered(self, answer: AnswerBody) -> Result<Outside, NoMemory>
+        ensures { IfOk result (λ came. (question : Ask) → IsAskedBy self question → came ≡ taken_as (Needs question) (Body (answer_bytes answer))) }
     {
         match self {
             Asked::Response { key, version } => {
-                match decode(alloc, key, version, Dir::Response, bytes) {
-                    Ok(response) => Ok(Outside::Answer(response)),
-                    Err(_) => Err(NoMemory),
+                if answer.body.key() != key || answer.body.version() != version {
+                    return Err(NoMemory);
                 }
+                Ok(Outside::Answer(answer.body))
             }
             Asked::Verdict => Ok(Outside::NoResponse),
         }

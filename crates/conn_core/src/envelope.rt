@@ -1,4 +1,4 @@
-ghost use Rattle.std.specs.Prelude.{◌≡◌, ◌+◌, ◌≤◌, ◌++◌, ℕ, List, length, IfOk, IfSome};
+ghost use Rattle.std.specs.Prelude.{◌≡◌, ◌+◌, ◌≤◌, ◌++◌, ℕ, List, length, drop, IfOk, IfSome};
 ghost use Rattle.tree_spelling.specs.Spelling.{spelling};
 ghost use Rattle.tree_spelling.specs.Body.{Contents};
 ghost use Rattle.filter_core.specs.Acks.{has_acks_zero};
@@ -43,7 +43,7 @@ impl Envelope {
     {
         Ok(Message {
             before: side_by_side(body.key().to_be_bytes(), body.version().to_be_bytes()),
-            behind: spell_message(self.alloc, &self.client_id, body, size).map_err(|_| NoMemory)?,
+            room: spell_message(self.alloc, &self.client_id, body, size).map_err(|_| NoMemory)?,
             main,
             responds: !has_acks_zero(body),
         })
@@ -62,19 +62,22 @@ impl Envelope {
     }
 }
 
-// What stands behind the correlation id of the broker's frame, whose size is `size`.
+// Room for the size and the head of the broker's frame, whose size is `size`, and what stands behind its correlation id.
 fn spell_message(
     alloc: Global,
     client_id: &Bytes,
     body: &Body,
     size: u64,
-) -> Result<Bytes, wire_types::NoMemory>
-    ensures { IfOk result (λ bytes. bytes ≡ client_id.now ++ spelling body.now.items) }
+) -> Result<Vec<u8>, wire_types::NoMemory>
+    requires small { size ≤ most_out }
+    ensures roomy { IfOk result (λ room. 12 ≤ length room.items) }
+    ensures behind { IfOk result (λ room. drop 12 room.items ≡ client_id.now ++ spelling body.now.items) }
 {
-    let mut behind = Writer::with_capacity(alloc, size as usize)?;
-    behind.put_all(client_id.as_slice())?;
-    append(&mut behind, body)?;
-    behind.finish()
+    let mut room = Writer::with_capacity(alloc, size as usize + 4)?;
+    room.put_all(&[0; 12])?;
+    room.put_all(client_id.as_slice())?;
+    append(&mut room, body)?;
+    Ok(room.into_vec())
 }
 
 // The whole frame, behind its size.

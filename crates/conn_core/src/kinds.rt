@@ -1,17 +1,11 @@
 ghost use Rattle.std.specs.Prelude.{◌≡◌, ◌+◌, ◌≤◌, true, false, length, IsNone, IfSome};
-ghost use Rattle.framing.specs.Heads.{has_client_id};
 ghost use Rattle.kp_schema.specs.Messages.{is_supported};
-ghost use Rattle.conn_core.specs.Requests.{client_id_length};
 ghost use Rattle.conn_core.specs.Kinds.{IsKind};
 
-use framing::start;
+use framing::{body_place, start};
 use kp_schema::{Dir, fields};
-use wire_types::Reader;
 
 const API_VERSIONS: i16 = 18;
-
-// The api key, the api version and the correlation id.
-const START: usize = 8;
 
 // What a client's frame is, by its head.
 #[derive(Clone, Copy, Debug, PartialEq, Eq)]
@@ -56,19 +50,6 @@ pub(crate) fn kind_of(frame: &[u8]) -> FrameKind
             body_at,
         },
         None => FrameKind::BadHead,
-    }
-}
-
-// Where the client id ends, if it is spelled.
-fn body_place(frame: &[u8]) -> Option<usize>
-    requires { 8 ≤ length frame.now }
-    ensures some { IfSome result (λ place. (has_client_id frame.now ≡ true) × (place ≡ 8 + client_id_length frame.now) × (place ≤ length frame.now)) }
-    ensures none { IsNone result → has_client_id frame.now ≡ false }
-{
-    let mut reader = Reader::new(frame.split_at(START).1);
-    match reader.string() {
-        Ok(_) => Some(START + reader.at()),
-        Err(_) => None,
     }
 }
 

@@ -2,7 +2,7 @@
 //!
 //! ```text
 //!   client frame --take--> Chain::begin: read, and given to the chain | told the known versions | no request
-//!   broker frame --answer--> Chain::unreadable: the body can be read | it ends the connection
+//!   broker frame --answer--> Chain::read: its body | it ends the connection
 //!                            Chain::go_on: the chain is given the answer --> one more send | a hold | the response
 //!   client <--emit-- the response behind the client's own correlation id
 //! ```
@@ -12,6 +12,7 @@
 #![tactic(auto)]
 
 mod acks;
+mod answer_body;
 mod chain;
 mod chain_run;
 mod connection;
@@ -19,17 +20,18 @@ mod envelope;
 mod kinds;
 mod laws;
 mod opening;
+mod read_answer;
 #[cfg(test)]
 mod steady;
 mod telling;
 #[cfg(test)]
 mod tests;
-mod unreadable;
 
+pub use answer_body::AnswerBody;
 pub use chain::Chain;
 pub use chain_run::ChainRun;
 pub use conn_rules::{
     AnswerFault, CompleteFault, Connection, Emit, Fault, Look, TakeFault, Ticket,
 };
 pub use connection::Core;
-pub use laws::{chain_law, spelled_law};
+pub use laws::{chain_law, own_ends_law, spelled_law};

@@ -3,7 +3,8 @@ ghost use Rattle.std.specs.Prelude.{◌≡◌, ◌+◌, ◌≤◌, length, Some,
 ghost use Rattle.tree_spelling.specs.Decoded.{Decoded};
 ghost use Rattle.tree_codec.specs.Decoding.{HasFault};
 ghost use Rattle.serving.specs.Causes.{why_of};
-ghost use Rattle.conn_core.specs.Requests.{client_id_length, request_of, body_cause};
+ghost use Rattle.framing.specs.Heads.{client_id_length};
+ghost use Rattle.conn_core.specs.Requests.{request_of, body_cause};
 ghost use Rattle.conn_core.specs.Underway.{IsEnvelopeOf};
 ghost use Rattle.conn_core.specs.Kinds.{HasHead, Opens};
 

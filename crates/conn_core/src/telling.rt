@@ -3,8 +3,8 @@ ghost use Rattle.std.specs.Prelude.{◌≡◌, ◌+◌, ◌≤◌, ℕ, suc, Lis
 ghost use Rattle.tree_spelling.specs.Body.{Contents};
 ghost use Rattle.side_requests.specs.declared.ask.Ask.{Ask};
 ghost use Rattle.filter_chain.specs.declared.state.State.TheVariants as state;
-ghost use Rattle.filter_chain.specs.RunStates.{budget_left, state_budget_left};
-ghost use Rattle.serving.specs.Services.{progress_left};
+ghost use Rattle.filter_chain.specs.RunStates.{budget_unused, state_budget_unused};
+ghost use Rattle.serving.specs.Services.{progress_remaining};
 ghost use Rattle.serving.specs.Causes.{why_of};
 ghost use Rattle.conn_core.specs.Requests.{is_silent};
 ghost use Rattle.conn_core.specs.Chained.{message_status, completed, shut_end, outcome_status, response_body};
@@ -29,7 +29,7 @@ pub(crate) fn tell<P: Drop>(
 ) -> Result<Progress<ChainRun<P>>, NoMemory>
     ensures told { IfOk result (λ progress. (frame : List ℕ) → IsEnvelopeOf envelope frame
         → IsToldAs (is_silent frame) (outcome_status frame (outcome_in state)) (KeepsRun envelope state) progress) }
-    ensures fewer { IfOk result (λ progress. progress_left (λ (kept : ChainRun P). budget_left kept.run) progress ≤ state_budget_left state) }
+    ensures fewer { IfOk result (λ progress. progress_remaining (λ (kept : ChainRun P). budget_unused kept.run) progress ≤ state_budget_unused state) }
 {
     match state {
         State::Needs(run, ask) => match ask {
@@ -60,7 +60,7 @@ fn tell_send<P: Drop>(
 ) -> Result<Progress<ChainRun<P>>, NoMemory>
     ensures told { IfOk result (λ progress. (frame : List ℕ) → IsEnvelopeOf envelope frame
         → IsToldAs (is_silent frame) (message_status frame request main) (KeepsRun envelope (state.Needs run (Ask.Broker request main))) progress) }
-    ensures fewer { IfOk result (λ progress. progress_left (λ (kept : ChainRun P). budget_left kept.run) progress ≤ suc (budget_left run)) }
+    ensures fewer { IfOk result (λ progress. progress_remaining (λ (kept : ChainRun P). budget_unused kept.run) progress ≤ suc (budget_unused run)) }
 {
     let Some(size) = envelope.message_size(&request) else {
         return Err(NoMemory);
@@ -90,7 +90,7 @@ fn tell_done<P: Drop>(
 ) -> Result<Progress<ChainRun<P>>, NoMemory>
     ensures told { IfOk result (λ progress. (frame : List ℕ) → IsEnvelopeOf envelope.now frame
         → IsToldAs (is_silent frame) (completed frame response) (λ kept. ⊥) progress) }
-    ensures fewer { IfOk result (λ progress. progress_left (λ (kept : ChainRun P). budget_left kept.run) progress ≡ 0) }
+    ensures fewer { IfOk result (λ progress. progress_remaining (λ (kept : ChainRun P). budget_unused kept.run) progress ≡ 0) }
 {
     if envelope.silent {
         return Ok(Progress::Done(None));

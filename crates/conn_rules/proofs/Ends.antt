@@ -8,7 +8,7 @@ use Rattle.conn_rules.specs.declared.event.Reply.TheVariants as reply
 use Rattle.conn_rules.specs.declared.event.Emit.TheVariants as emit
 use Rattle.conn_rules.specs.Meaning.{Meaning}
 use Rattle.conn_rules.specs.State.{State, opening, in_flight, held}
-use Rattle.conn_rules.specs.Causes.{are_ending, cut_cause}
+use Rattle.conn_rules.specs.Causes.{are_ending}
 use Rattle.conn_rules.specs.Steps.{joined, response_in, silent_passed, over_or, respond_or, told_again, emit_step, answer_to, memory_answer, StepOrNoMemory}
 use Rattle.conn_rules.specs.History.{Entry, LeadsTo, IsHistory, IsTold, IsToldIfEmit}
 use Rattle.conn_rules.proofs.Keeps.{keeps_settling}
@@ -39,7 +39,7 @@ module _ (M : Meaning) (s : State) where
       let t : State = silent_passed M s in
       tells_again s s.causes.over _ refl
       (tells_over_or s.causes.halt s _
-      (tells_over_or (cut_cause t.causes.cut t.passed) t _
+      (tells_over_or _ t _
       (tells_respond_or (response_in M (slice_get t.requests t.passed)) t _ (tells_over_or s.causes.death t _ (tells_later t)))))
 
   -- it is answered by Emit, so never for want of memory
@@ -60,7 +60,7 @@ module _ (M : Meaning) (s : State) where
       let t : State = silent_passed M s in
       again_emitted s.causes.over _
       (over_or_emitted s.causes.halt s _
-      (over_or_emitted (cut_cause t.causes.cut t.passed) t _
+      (over_or_emitted _ t _
       (respond_or_emitted (response_in M (slice_get t.requests t.passed)) t _ (over_or_emitted s.causes.death t (reply.Emit emit.Later, t) refl))))
 
 all_cons : {X : Type 0} → (P : X → Type 0) (x : X) (xs : List X) → P x → All P xs → All P (x ∷ xs)

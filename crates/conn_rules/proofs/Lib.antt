@@ -9,3 +9,5 @@ pub mod Sweep
 pub mod Worked
 pub mod Brings
 pub mod Resting
+pub mod Told
+pub mod ClientEnds

@@ -14,7 +14,7 @@ use Rattle.conn_rules.specs.declared.event.Reply.TheVariants as reply
 use Rattle.conn_rules.specs.declared.event.Emit.TheVariants as emit
 use Rattle.conn_rules.specs.Meaning.{Meaning, Lasting, CarriesId, Status, Waits, Done, Fails}
 use Rattle.conn_rules.specs.State.{Request, State, opening, halted, in_flight, held}
-use Rattle.conn_rules.specs.Causes.{below, are_ending, cut_cause}
+use Rattle.conn_rules.specs.Causes.{below, are_ending}
 use Rattle.conn_rules.specs.Settling.{Settles}
 use Rattle.conn_rules.specs.Steps.{joined, response_of, response_in, silent_run, silent_passed, over_or, respond_or, told_again, emit_step, answer_to, StepOrNoMemory}
 use Rattle.conn_rules.specs.History.{Entry, LeadsTo, IsHistory, to_client, out, response_bytes, responses, IsAnswered, IsInOrder}
@@ -161,7 +161,7 @@ module _ (M : Meaning) (s : State) where
       let later : Passes M s (reply.Emit emit.Later, t) = record { done = silent.done; responses = silent.responses } in
       passes_told s.causes.over _ done
       (passes_over_or s.causes.halt s _ here
-      (passes_over_or (cut_cause t.causes.cut t.passed) t _ silent
+      (passes_over_or _ t _ silent
       (passes_respond_or _ t _ refl silent (passes_over_or s.causes.death t _ silent later))))
 
 -- every event

@@ -12,7 +12,7 @@ use Rattle.conn_rules.specs.declared.event.AnswerFault.TheVariants as answer_fau
 use Rattle.conn_rules.specs.declared.event.CompleteFault.TheVariants as complete_fault
 use Rattle.conn_rules.specs.Meaning.{Meaning}
 use Rattle.conn_rules.specs.State.{State, opening, halted, in_flight, held}
-use Rattle.conn_rules.specs.Causes.{are_ending, cut_cause, first_cause}
+use Rattle.conn_rules.specs.Causes.{are_ending, first_cause}
 use Rattle.conn_rules.specs.Steps.{joined, response_in, silent_passed, over_or, respond_or, told_again, emit_step, answer_to, memory_answer, StepOrNoMemory}
 use Rattle.conn_rules.specs.History.{Entry, LeadsTo, IsHistory, is_taken, frame_taken, frames_taken, AreRequests, found_no_room, client_frame, client_frames, AreFirst}
 use Rattle.conn_rules.proofs.Keeps.{Keeps, keeps_joined, keeps_halted, keeps_settling}
@@ -113,7 +113,7 @@ module _ (M : Meaning) (s : State) where
       let there : Same s t = record { requests = refl; ending = λ e. e } in
       same_told s.causes.over _ here
       (same_over_or s.causes.halt s _ here
-      (same_over_or (cut_cause t.causes.cut t.passed) t _ there
+      (same_over_or _ t _ there
       (same_respond_or (response_in M (slice_get t.requests t.passed)) t _ there (same_over_or s.causes.death t _ there there))))
 
 -- want of memory takes nothing

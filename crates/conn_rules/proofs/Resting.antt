@@ -15,7 +15,7 @@ use Rattle.conn_rules.specs.declared.event.Emit.TheVariants as emit
 use Rattle.conn_rules.specs.declared.event.TakeFault.TheVariants as take_fault
 use Rattle.conn_rules.specs.declared.event.AnswerFault.TheVariants as answer_fault
 use Rattle.conn_rules.specs.declared.event.CompleteFault.TheVariants as complete_fault
-use Rattle.conn_rules.specs.Causes.{below, with_cut, with_death, with_halt, with_told, cut_cause, are_ending, are_dead, are_still, client_ended, broker_ended}
+use Rattle.conn_rules.specs.Causes.{below, with_cut, with_death, with_halt, with_told, are_ending, are_dead, are_still, client_ended, broker_ended}
 use Rattle.conn_rules.specs.Meaning.{Meaning}
 use Rattle.conn_rules.specs.Settling.{Act, or_else, act_of, act_from, next_act, lets_later_go, Settles}
 use Rattle.conn_rules.specs.State.{Verdict, Request, ListedSend, State, opening, cut_at, halted, in_flight, held, give, due_send, waiting}
@@ -57,12 +57,12 @@ pub low_before_cut : (k : ℕ) (why : End) (c : Causes) (j : ℕ) → below (wit
 low_before_cut k why c j h = cut_low k why c.cut j (below c.cut k) refl h
 
 -- the requests and the sends stay, and a cut stands at a lesser request at most
-record IsLower (s t : State) : Type 0 where
+pub record IsLower (s t : State) : Type 0 where
   requests : t.requests ≡ s.requests
   sends : t.sends ≡ s.sends
   lower : (j : ℕ) → below t.causes.cut j ≡ true → below s.causes.cut j ≡ true
 
-lower_same : (s t : State) → t.requests ≡ s.requests → t.sends ≡ s.sends → t.causes.cut ≡ s.causes.cut → IsLower s t
+pub lower_same : (s t : State) → t.requests ≡ s.requests → t.sends ≡ s.sends → t.causes.cut ≡ s.causes.cut → IsLower s t
 lower_same s t a b c = record { requests = a; sends = b; lower = λ j h. ap (λ x. below x j) (sym c) ∙ h }
 
 lower_cut : (k : ℕ) (why : End) (s : State) → IsLower s (cut_at k why s)
@@ -121,13 +121,13 @@ module _ (M : Meaning) (s : State) where
   lower_again None later h = h
   lower_again (Some why) later h = itself
 
-  lower_emit : Lower (emit_step M s)
+  pub lower_emit : Lower (emit_step M s)
   lower_emit =
       let t : State = silent_passed M s in
       let h : IsLower s t = lower_same s t refl refl refl in
       lower_again s.causes.over _
       (lower_over s.causes.halt s _ itself
-      (lower_over (cut_cause t.causes.cut t.passed) t _ h
+      (lower_over _ t _ h
       (lower_respond (response_in M (slice_get t.requests t.passed)) t _ h (lower_over s.causes.death t (reply.Emit emit.Later, t) h h))))
 
   -- a frame or a verdict that is refused
@@ -156,7 +156,7 @@ module _ (M : Meaning) (s : State) where
   lower_event event.Pick h = lower_if (are_still s.causes) _ _ itself (lower_picked (first_hold M s.causes.cut s.picked 0 s.requests))
   lower_event event.Look h = itself
 
-  rest_at : (t : State) → IsLower s t → next_act M s ≡ None → next_act M t ≡ None
+  pub rest_at : (t : State) → IsLower s t → next_act M s ≡ None → next_act M t ≡ None
   rest_at t low none =
       ap (λ ds. act_from M ds t.causes.cut 0 true t.requests) low.sends
       ∙ (ap (λ rs. act_from M s.sends t.causes.cut 0 true rs) low.requests

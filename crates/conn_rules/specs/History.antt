@@ -37,13 +37,7 @@ emitted_by (emit.Over why) = []
 
 abbrev pub to_client : Reply → List ℕ
 to_client (reply.Emit e) = emitted_by e
-to_client (reply.Take _) = []
-to_client (reply.Answer _) = []
-to_client (reply.Complete _) = []
-to_client reply.Noted = []
-to_client (reply.Send _) = []
-to_client (reply.Pick _) = []
-to_client (reply.Look _) = []
+to_client _ = []
 
 abbrev pub send_bytes : Option (List ℕ) → List ℕ
 send_bytes None = []
@@ -51,13 +45,7 @@ send_bytes (Some frame) = frame
 
 abbrev pub to_broker : Reply → List ℕ
 to_broker (reply.Send frame) = send_bytes frame
-to_broker (reply.Take _) = []
-to_broker (reply.Answer _) = []
-to_broker (reply.Complete _) = []
-to_broker reply.Noted = []
-to_broker (reply.Emit _) = []
-to_broker (reply.Pick _) = []
-to_broker (reply.Look _) = []
+to_broker _ = []
 
 -- all that the client is sent, and all that the broker is
 abbrev pub out : List Entry → List ℕ
@@ -92,26 +80,11 @@ pub record IsInOrder (M : Meaning) (hs : List Entry) (s : State) : Type 0 where
 -- the client's frame, where this is a Take that was answered Ok
 abbrev pub is_taken : Reply → Bool
 is_taken (reply.Take (Ok _)) = true
-is_taken (reply.Take (Err _)) = false
-is_taken (reply.Answer _) = false
-is_taken (reply.Complete _) = false
-is_taken reply.Noted = false
-is_taken (reply.Send _) = false
-is_taken (reply.Emit _) = false
-is_taken (reply.Pick _) = false
-is_taken (reply.Look _) = false
+is_taken _ = false
 
 abbrev pub frame_taken : Event → Reply → List (List ℕ)
 frame_taken (event.Take frame) r = if is_taken r then frame ∷ [] else []
-frame_taken (event.Answer frame) r = []
-frame_taken (event.Complete k i verdict) r = []
-frame_taken (event.ClientEnd rest) r = []
-frame_taken (event.BrokerEnd rest) r = []
-frame_taken (event.Fault x) r = []
-frame_taken event.Send r = []
-frame_taken event.Emit r = []
-frame_taken event.Pick r = []
-frame_taken event.Look r = []
+frame_taken _ r = []
 
 -- all frames that were taken from the client
 abbrev pub frames_taken : List Entry → List (List ℕ)
@@ -125,39 +98,16 @@ is_full take_fault.NoMemory = false
 
 abbrev pub found_no_room : Reply → Bool
 found_no_room (reply.Take (Err e)) = is_full e
-found_no_room (reply.Take (Ok _)) = false
-found_no_room (reply.Answer _) = false
-found_no_room (reply.Complete _) = false
-found_no_room reply.Noted = false
-found_no_room (reply.Send _) = false
-found_no_room (reply.Emit _) = false
-found_no_room (reply.Pick _) = false
-found_no_room (reply.Look _) = false
+found_no_room _ = false
 
 -- the frame of the client's that this entry handed on for good, and that of the broker's
 abbrev pub client_frame : Event → Reply → List (List ℕ)
 client_frame (event.Take frame) r = if found_no_room r then [] else frame ∷ []
-client_frame (event.Answer frame) r = []
-client_frame (event.Complete k i verdict) r = []
-client_frame (event.ClientEnd rest) r = []
-client_frame (event.BrokerEnd rest) r = []
-client_frame (event.Fault x) r = []
-client_frame event.Send r = []
-client_frame event.Emit r = []
-client_frame event.Pick r = []
-client_frame event.Look r = []
+client_frame _ r = []
 
 abbrev pub broker_frame : Event → List (List ℕ)
 broker_frame (event.Answer frame) = frame ∷ []
-broker_frame (event.Take frame) = []
-broker_frame (event.Complete k i verdict) = []
-broker_frame (event.ClientEnd rest) = []
-broker_frame (event.BrokerEnd rest) = []
-broker_frame (event.Fault x) = []
-broker_frame event.Send = []
-broker_frame event.Emit = []
-broker_frame event.Pick = []
-broker_frame event.Look = []
+broker_frame _ = []
 
 -- all frames of the client's that were handed on for good, whether the connection took them or not, and all of the
 -- broker's

@@ -9,3 +9,4 @@ pub mod Work
 pub mod Connections
 pub mod Worked
 pub mod Room
+pub mod Told

@@ -36,7 +36,7 @@ pub record State : Type 0 where
   pub sends : List ListedSend
   -- sends that the broker's writer took
   pub taken : ℕ
-  -- responses of the broker that found their send
+  -- answers that found their send
   pub answered : ℕ
   -- requests that emit steps passed
   pub passed : ℕ

@@ -55,9 +55,7 @@ answer_step M s frame =
 -- the hold that a request with this status waits for: the ask's number and its key
 abbrev pub hold_of : ℕ → Status → Option (ℕ × List ℕ)
 hold_of i (Waits (Hold key)) = Some (i, key)
-hold_of i (Waits (ToBroker before behind main responds)) = None
-hold_of i (Done response) = None
-hold_of i (Fails why) = None
+hold_of i _ = None
 
 -- the same of a request, if it is there and below the cut
 abbrev pub hold_in : Meaning → Option (ℕ × End) → ℕ → Option Request → Option (ℕ × List ℕ)
@@ -187,29 +185,16 @@ pub record Step (M : Meaning) (s : State) (e : Event) (r : Reply) (t : State) : 
 -- the answer that want of memory gives in place of an Ok
 abbrev pub memory_answer : Reply → Option Reply
 memory_answer (reply.Take (Ok _)) = Some (reply.Take (Err take_fault.NoMemory))
-memory_answer (reply.Take (Err _)) = None
 memory_answer (reply.Answer (Ok _)) = Some (reply.Answer (Err answer_fault.NoMemory))
-memory_answer (reply.Answer (Err _)) = None
 memory_answer (reply.Complete (Ok _)) = Some (reply.Complete (Err complete_fault.NoMemory))
-memory_answer (reply.Complete (Err _)) = None
-memory_answer reply.Noted = None
-memory_answer (reply.Send _) = None
-memory_answer (reply.Emit _) = None
-memory_answer (reply.Pick _) = None
-memory_answer (reply.Look _) = None
+memory_answer _ = None
 
 -- Which events take memory, among those that an Ok answers. A broker's frame does where it has a request to go to.
 abbrev pub TakesMemory : State → Event → Type 0
 TakesMemory s (event.Take frame) = Unit {0}
 TakesMemory s (event.Answer frame) = (due : ℕ × ListedSend) × (due_send s ≡ Some due) × (response_id frame ≡ pos (upstream_id due.0)) × IsTrue (below s.causes.cut due.1.request)
 TakesMemory s (event.Complete k i verdict) = Unit {0}
-TakesMemory s (event.ClientEnd rest) = ⊥
-TakesMemory s (event.BrokerEnd rest) = ⊥
-TakesMemory s (event.Fault x) = ⊥
-TakesMemory s event.Send = ⊥
-TakesMemory s event.Emit = ⊥
-TakesMemory s event.Pick = ⊥
-TakesMemory s event.Look = ⊥
+TakesMemory s _ = ⊥
 
 -- Want of memory, in place of Ok and of nothing else: the connection halts, and all else stays.
 pub record GivesUp (M : Meaning) (s : State) (e : Event) (r : Reply) (t : State) : Type 0 where

@@ -18,16 +18,9 @@ TakesGrowth M before after s t = after + total_work M s ≡ before + total_work 
 -- whether a frame or a verdict is accepted
 abbrev pub is_accepted : Reply → Bool
 is_accepted (reply.Take (Ok _)) = true
-is_accepted (reply.Take (Err _)) = false
 is_accepted (reply.Answer (Ok _)) = true
-is_accepted (reply.Answer (Err _)) = false
 is_accepted (reply.Complete (Ok _)) = true
-is_accepted (reply.Complete (Err _)) = false
-is_accepted reply.Noted = false
-is_accepted (reply.Send _) = false
-is_accepted (reply.Emit _) = false
-is_accepted (reply.Pick _) = false
-is_accepted (reply.Look _) = false
+is_accepted _ = false
 
 -- the work of all requests stays at each entry that accepts nothing
 abbrev pub WorkStays : Meaning → Type 0

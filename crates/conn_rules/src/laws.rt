@@ -1,10 +1,11 @@
-ghost use Rattle.std.specs.Prelude.{◌≡◌, ◌∷◌, ◌++◌, List, All};
+ghost use Rattle.std.specs.Prelude.{◌≡◌, ◌∷◌, ◌++◌, List, length, Some, All, IsTrue};
 ghost use Rattle.kp_edge.specs.declared.end.End.{End};
 ghost use Rattle.conn_rules.specs.Meaning.{Meaning, Lasting};
 ghost use Rattle.conn_rules.specs.State.{State};
 ghost use Rattle.conn_rules.specs.Worked.{worked_meaning, worked_exchange, told_ended};
 ghost use Rattle.conn_rules.specs.Sweep.{SweepLaws};
 ghost use Rattle.conn_rules.specs.Work.{WorkStays};
+ghost use Rattle.conn_rules.specs.Told.{IsEndNext, is_client_stream_end, FailsByOwnEnds};
 ghost use Rattle.conn_rules.specs.History.{Entry, IsHistory, AreRequests, IsTold, IsToldIfEmit, IsInOrder, frames_taken, client_frames, AreFirst};
 
 /// The law of order: what a client was sent is the responses to the first of its requests, one after another,
@@ -28,6 +29,16 @@ pub fn first_frames_law()
 /// Once the client's writer was told an end, it is told the same ever after.
 pub fn end_stays_law()
     ensures { (M : Meaning) (before behind : List Entry) (told : Entry) (why : End) (s : State) → IsTold why told → IsHistory M (before ++ told ∷ behind) s → All (IsToldIfEmit why) behind }
+{}
+
+/// The end that was told comes next. It is a halt's, or the cut stands at the first request that isn't passed, or the
+/// connection died and that request has no response.
+///
+/// So where the client's stream is what ended, all requests are passed. By the law of order the client was then sent the
+/// responses of all of them.
+pub fn told_law()
+    ensures end_next { (M : Meaning) (hs : List Entry) (s : State) (why : End) → IsHistory M hs s → s.causes.over ≡ Some why → IsEndNext M why s }
+    ensures all_passed { (M : Meaning) (hs : List Entry) (s : State) (why : End) → FailsByOwnEnds M → IsHistory M hs s → s.causes.over ≡ Some why → IsTrue (is_client_stream_end why) → s.passed ≡ length s.requests }
 {}
 
 /// Settling is one sweep over the requests, from the oldest on.

@@ -13,7 +13,7 @@ pub record Window : Type 0 where
   pub next : ℕ
   -- how many the writer took, of those that get a response and have none yet
   pub waiting : ℕ
-  -- whose those are that get a response and have none yet, taken or not, in the order of the list
+  -- the owners of the sends that are still to get a response, taken or not, in the list's order
   pub owners : List Numbered
   -- the frames that weren't taken, with their sizes
   pub unsent : List Unsent

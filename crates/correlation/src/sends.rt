@@ -24,7 +24,7 @@ pub struct Sends {
     pub(crate) next: u64,
     // How many the writer took, of those that get a response and have none yet.
     pub(crate) waiting: u64,
-    // Whose those are that get a response and have none yet, in the order of the list.
+    // The owners of the sends that are still to get a response, in the list's order.
     pub(crate) owners: VecDeque<Numbered>,
     pub(crate) unsent: VecDeque<Unsent>,
     ghost counted: { waiting + responding_count unsent.items ≡ length owners.items },
@@ -88,7 +88,7 @@ impl Sends {
         Some(unsent.frame)
     }
 
-    /// Whose the broker's next frame is, which has this correlation id. A refusal changes nothing.
+    /// The owner of the broker's next frame, by its correlation id. A refusal changes nothing.
     pub fn answer(&mut self, id: i32) -> Result<Owner, AnswerRefusal>
         ensures owner { result ≡ owner_of_frame id (due_owner (window_of self.old)) }
         ensures answered { window_of self.new ≡ with_answered (owner_of_frame id (due_owner (window_of self.old))) (window_of self.old) }

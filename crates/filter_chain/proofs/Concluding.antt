@@ -20,7 +20,7 @@ use Rattle.filter_core.specs.Responses.{response_given}
 use Rattle.filter_chain.specs.Chain.{Fate, Back, Awaits, Closes, Course, behind_turns, asked_outside, way_from}
 use Rattle.filter_chain.specs.Outcomes.{Outcome, Needs, Completed, Shuts, outcome_after, course, run, turns}
 use Rattle.filter_chain.specs.Suspensions.{resumed, stopped, as_awaited, awaited_by, AreSuspended, StandFor, Leads, IsConclusion}
-use Rattle.filter_chain.specs.RunStates.{RunsFor, IsState, state_budget_left}
+use Rattle.filter_chain.specs.RunStates.{RunsFor, IsState, state_budget_unused}
 use Rattle.filter_chain.proofs.Courses.{behind_none, resumed_asks}
 use Rattle.filter_chain.proofs.Suspensions.{one_longer}
 
@@ -30,11 +30,11 @@ may_ask given ask h = ap (λ b. if b then Needs ask else Shuts cause.AskBudget) 
 may_not_ask : (given : ℕ) (ask : Ask) → ask_limit ≤ given → outcome_after given (Awaits ask) ≡ Shuts cause.AskBudget
 may_not_ask given ask h = ap (λ b. if b then Needs ask else Shuts cause.AskBudget) (le-ltb given ask_limit h)
 
--- who asks has one ask fewer left
-pub fewer_left : {P : Type 0} (ss : List (Suspended P)) (asked : ℕ) (st : Stop) (r : State P) → IsConclusion ss asked st r → state_budget_left r ≤ ask_limit - asked
-fewer_left ss asked (stop.Asks question) (state.Needs r ask) h = omega (arith, h.1, h.4)
-fewer_left ss asked (stop.Asks question) (state.Done response) h = omega arith
-fewer_left ss asked (stop.Asks question) (state.Shut cause) h = omega arith
+-- who asks has one ask fewer unused
+pub fewer_left : {P : Type 0} (ss : List (Suspended P)) (asked : ℕ) (st : Stop) (r : State P) → IsConclusion ss asked st r → state_budget_unused r ≤ ask_limit - asked
+fewer_left ss asked (stop.Needs question) (state.Needs r ask) h = omega (arith, h.1, h.4)
+fewer_left ss asked (stop.Needs question) (state.Done response) h = omega arith
+fewer_left ss asked (stop.Needs question) (state.Shut cause) h = omega arith
 fewer_left ss asked (stop.Done input) (state.Needs r ask) h = absurd h
 fewer_left ss asked (stop.Done input) (state.Done response) h = omega arith
 fewer_left ss asked (stop.Done input) (state.Shut cause) h = omega arith
@@ -51,7 +51,7 @@ module _ {F P : Type 0} (turn : F → Turn) (stands : F → P → Contents → L
   now = ap (course (map turn chain) request) (append-nil given)
 
   module _ (ss : List (Suspended P)) (n : ℕ) where
-    asks_now : (question : Ask) → StandFor turn stands chain ss (next.Stops (stop.Asks question)) n later → course (map turn chain) request given ≡ record { fate = Awaits question; left = []; turns = n + 0 }
+    asks_now : (question : Ask) → StandFor turn stands chain ss (next.Stops (stop.Needs question)) n later → course (map turn chain) request given ≡ record { fate = Awaits question; unused = []; turns = n + 0 }
     asks_now question s = sym now ∙ s.goes [] ∙ ap (behind_turns n) (resumed_asks s.suspensions question [] 0)
 
     no_more : n + 0 ≡ n
@@ -59,33 +59,33 @@ module _ {F P : Type 0} (turn : F → Turn) (stands : F → P → Contents → L
 
     -- how many turns there were
     pub turns_now : (st : Stop) → StandFor turn stands chain ss (next.Stops st) n later → turns (map turn chain) request given ≡ n
-    turns_now (stop.Asks question) s = ap (λ (c : Course). c.turns) (asks_now question s) ∙ no_more
+    turns_now (stop.Needs question) s = ap (λ (c : Course). c.turns) (asks_now question s) ∙ no_more
     turns_now (stop.Done input) s = ap (λ (c : Course). c.turns) (sym now ∙ s.goes []) ∙ no_more
     turns_now (stop.Shut k reason) s = ap (λ (c : Course). c.turns) (sym now ∙ s.goes []) ∙ no_more
 
-    waits_for : (question : Ask) (asked : ℕ) (r : Run P) → asked ≡ length given → StandFor turn stands chain ss (next.Stops (stop.Asks question)) n later
+    waits_for : (question : Ask) (asked : ℕ) (r : Run P) → asked ≡ length given → StandFor turn stands chain ss (next.Stops (stop.Needs question)) n later
         → r.suspended.items ≡ ss → r.awaits ≡ awaited_by question → r.book ≡ asked + 1 → RunsFor turn stands chain request given r
     waits_for question asked r e s e1 e2 e3 =
         record {
           ask = question;
           awaits = e2;
           asked = e3 ∙ ap (λ k. k + 1) e ∙ let z : length given + 1 ≡ suc (length given) = omega arith in z;
-          stand = subst (λ ts. StandFor turn stands chain ts (next.Stops (stop.Asks question)) (turns (map turn chain) request given) later) (sym e1)
-              (subst (λ k. StandFor turn stands chain ss (next.Stops (stop.Asks question)) k later) (sym (turns_now (stop.Asks question) s)) s);
+          stand = subst (λ ts. StandFor turn stands chain ts (next.Stops (stop.Needs question)) (turns (map turn chain) request given) later) (sym e1)
+              (subst (λ k. StandFor turn stands chain ss (next.Stops (stop.Needs question)) k later) (sym (turns_now (stop.Needs question) s)) s);
         }
 
-    outcome_asks : (question : Ask) → StandFor turn stands chain ss (next.Stops (stop.Asks question)) n later → run (map turn chain) request given ≡ outcome_after (length given) (Awaits question)
+    outcome_asks : (question : Ask) → StandFor turn stands chain ss (next.Stops (stop.Needs question)) n later → run (map turn chain) request given ≡ outcome_after (length given) (Awaits question)
     outcome_asks question s = ap (λ (c : Course). outcome_after (length given) c.fate) (asks_now question s)
 
     pub concluded : (st : Stop) (asked : ℕ) (r : State P) → asked ≡ length given → StandFor turn stands chain ss (next.Stops st) n later
         → IsConclusion ss asked st r → IsState turn stands chain request given r
-    concluded (stop.Asks question) asked (state.Needs r ask) e s h = (
+    concluded (stop.Needs question) asked (state.Needs r ask) e s h = (
       outcome_asks question s ∙ may_ask (length given) question (subst (λ k. k < ask_limit) e h.1) ∙ ap Needs (sym h.0),
       waits_for question asked r e s h.2 h.3 h.4,
     )
-    concluded (stop.Asks question) asked (state.Done response) e s h = absurd h
-    concluded (stop.Asks question) asked (state.Shut (cause.Filter filter why)) e s h = absurd h
-    concluded (stop.Asks question) asked (state.Shut cause.AskBudget) e s h = outcome_asks question s ∙ may_not_ask (length given) question (subst (λ k. ask_limit ≤ k) e h)
+    concluded (stop.Needs question) asked (state.Done response) e s h = absurd h
+    concluded (stop.Needs question) asked (state.Shut (cause.Filter filter why)) e s h = absurd h
+    concluded (stop.Needs question) asked (state.Shut cause.AskBudget) e s h = outcome_asks question s ∙ may_not_ask (length given) question (subst (λ k. ask_limit ≤ k) e h)
     concluded (stop.Done input) asked (state.Needs r ask) e s h = absurd h
     concluded (stop.Done input) asked (state.Done response) e s h = ap (λ (c : Course). outcome_after (length given) c.fate) (sym now ∙ s.goes []) ∙ ap Completed (sym h)
     concluded (stop.Done input) asked (state.Shut cause) e s h = absurd h
@@ -133,7 +133,7 @@ module _ {F P : Type 0} (turn : F → Turn) (stands : F → P → Contents → L
       are = h.stand.are;
       goes = λ xs.
           ap (course (map turn chain) request) (one_more xs) ∙ h.stand.goes (outside ∷ xs)
-          ∙ ap (λ a. behind_turns (turns (map turn chain) request given) (resumed h.stand.suspensions (record { fate = Back (as_awaited a outside); left = xs; turns = 0 }))) (sym h.awaits);
+          ∙ ap (λ a. behind_turns (turns (map turn chain) request given) (resumed h.stand.suspensions (record { fate = Back (as_awaited a outside); unused = xs; turns = 0 }))) (sym h.awaits);
     }
 
     -- `Run::poll`

@@ -19,9 +19,9 @@ use Rattle.filter_chain.specs.Laws.{IsSettled, UsesFront, DoneStays, EndStays, N
 -- `UsesFront` of a way that comes to this course
 record Uses (way : List Outside → Course) (xs : List Outside) (c : Course) : Type 0 where
   used : List Outside
-  front : xs ≡ used ++ c.left
-  whatever : IsSettled c.fate → (more : List Outside) → way (used ++ more) ≡ record { fate = c.fate; left = more; turns = c.turns }
-  all_used : (ask : Ask) → c.fate ≡ Awaits ask → c.left ≡ []
+  front : xs ≡ used ++ c.unused
+  whatever : IsSettled c.fate → (more : List Outside) → way (used ++ more) ≡ record { fate = c.fate; unused = more; turns = c.turns }
+  all_used : (ask : Ask) → c.fate ≡ Awaits ask → c.unused ≡ []
 
 uses_asks : (question : Ask) (f : Outside → Input) (xs : List Outside) → Uses (asked_outside question f) xs (asked_outside question f xs)
 uses_asks question f [] = record { used = []; front = refl; whatever = λ s more. absurd s; all_used = λ ask e. refl }
@@ -31,29 +31,29 @@ uses_behind : (n : ℕ) (way : List Outside → Course) (xs : List Outside) (c :
 uses_behind n way xs c u = record { used = u.used; front = u.front; whatever = λ s more. ap (behind_turns n) (u.whatever s more); all_used = u.all_used }
 
 module _ (way : List Outside → Course) (g : Input → List Outside → Course) (each : (x : Input) (ys : List Outside) → Uses (g x) ys (g x ys)) (xs : List Outside) where
-  uses_given : (fate : Fate) (left : List Outside) (turns : ℕ) → Uses way xs (record { fate = fate; left = left; turns = turns }) → Uses (λ ys. gives g (way ys)) xs (given_back g turns left fate)
-  uses_given (Back x) left turns u =
-      let v = each x left in
+  uses_given : (fate : Fate) (unused : List Outside) (turns : ℕ) → Uses way xs (record { fate = fate; unused = unused; turns = turns }) → Uses (λ ys. gives g (way ys)) xs (given_back g turns unused fate)
+  uses_given (Back x) unused turns u =
+      let v = each x unused in
       record {
         used = u.used ++ v.used;
-        front = u.front ∙ ap (λ l. u.used ++ l) v.front ∙ sym (append_assoc u.used v.used (g x left).left);
+        front = u.front ∙ ap (λ l. u.used ++ l) v.front ∙ sym (append_assoc u.used v.used (g x unused).unused);
         whatever = λ s more.
             ap (λ l. gives g (way l)) (append_assoc u.used v.used more)
             ∙ ap (gives g) (u.whatever tt (v.used ++ more))
             ∙ ap (behind_turns turns) (v.whatever s more);
         all_used = v.all_used;
       }
-  uses_given (Awaits question) left turns u = record { used = u.used; front = u.front; whatever = λ s more. absurd s; all_used = u.all_used }
-  uses_given (Closes filter reason) left turns u = record { used = u.used; front = u.front; whatever = λ s more. ap (gives g) (u.whatever tt more); all_used = u.all_used }
-  uses_given (Endless filter) left turns u = record { used = u.used; front = u.front; whatever = λ s more. ap (gives g) (u.whatever tt more); all_used = u.all_used }
+  uses_given (Awaits question) unused turns u = record { used = u.used; front = u.front; whatever = λ s more. absurd s; all_used = u.all_used }
+  uses_given (Closes filter reason) unused turns u = record { used = u.used; front = u.front; whatever = λ s more. ap (gives g) (u.whatever tt more); all_used = u.all_used }
+  uses_given (Endless filter) unused turns u = record { used = u.used; front = u.front; whatever = λ s more. ap (gives g) (u.whatever tt more); all_used = u.all_used }
 
   uses_gives : (c : Course) → Uses way xs c → Uses (λ ys. gives g (way ys)) xs (gives g c)
-  uses_gives c u = uses_given c.fate c.left c.turns u
+  uses_gives c u = uses_given c.fate c.unused c.turns u
 
 abbrev IsFronted : Way → Type 0
 IsFronted nearer = (m : Contents) (main : Bool) (xs : List Outside) → Uses (nearer m main) xs (nearer m main xs)
 
-uses_ended : (fate : Fate) (xs : List Outside) → ((ask : Ask) → fate ≡ Awaits ask → ⊥) → Uses (λ ys. record { fate = fate; left = ys; turns = 0 }) xs (record { fate = fate; left = xs; turns = 0 })
+uses_ended : (fate : Fate) (xs : List Outside) → ((ask : Ask) → fate ≡ Awaits ask → ⊥) → Uses (λ ys. record { fate = fate; unused = ys; turns = 0 }) xs (record { fate = fate; unused = xs; turns = 0 })
 uses_ended fate xs never = record { used = []; front = refl; whatever = λ s more. refl; all_used = λ ask e. absurd (never ask e) }
 
 uses_decided : (nearer : Way) (k : ℕ) (main : Bool) (g : Input → List Outside → Course) → IsFronted nearer → ((x : Input) (ys : List Outside) → Uses (g x) ys (g x ys))
@@ -69,7 +69,7 @@ uses_turns : (n : ℕ) (nearer : Way) (k : ℕ) (turn : Turn) (request : Content
 unfolding turns_on
 uses_turns zero nearer k turn request main inputs fronted xs = uses_ended (Endless k) xs (λ ask e. cc)
 uses_turns (suc n) nearer k turn request main inputs fronted xs =
-    uses_behind 1 _ xs _ (uses_decided nearer k main (λ x left. turns_on n nearer k turn request main (inputs ++ x ∷ []) left) fronted (λ x ys. uses_turns n nearer k turn request main (inputs ++ x ∷ []) fronted ys) (turn request inputs) xs)
+    uses_behind 1 _ xs _ (uses_decided nearer k main (λ x unused. turns_on n nearer k turn request main (inputs ++ x ∷ []) unused) fronted (λ x ys. uses_turns n nearer k turn request main (inputs ++ x ∷ []) fronted ys) (turn request inputs) xs)
 
 uses_way : (chain : List Turn) (k : ℕ) → IsFronted (way_from k chain)
 uses_way [] k m main xs = uses_asks (ask.Broker m main) as_answer xs
@@ -85,8 +85,8 @@ settled_stays : (chain : List Turn) (request : Contents) (given more : List Outs
     → (course chain request (given ++ more)).fate ≡ (course chain request given).fate
 settled_stays chain request given more s =
     let u = uses_way chain 0 request true given in
-    ap (λ xs. (course chain request xs).fate) (ap (λ xs. xs ++ more) u.front ∙ append_assoc u.used (course chain request given).left more)
-    ∙ ap (λ (c : Course). c.fate) (u.whatever s ((course chain request given).left ++ more))
+    ap (λ xs. (course chain request xs).fate) (ap (λ xs. xs ++ more) u.front ∙ append_assoc u.used (course chain request given).unused more)
+    ∙ ap (λ (c : Course). c.fate) (u.whatever s ((course chain request given).unused ++ more))
 
 asks_is_not_done : (b : Bool) (ask : Ask) (r : Option Contents) → (if b then Needs ask else Shuts cause.AskBudget) ≡ Completed r → ⊥
 asks_is_not_done true ask r e = cc

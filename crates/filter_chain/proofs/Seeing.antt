@@ -15,14 +15,14 @@ use Rattle.filter_chain.specs.Outcomes.{outcome_after}
 use Rattle.filter_chain.specs.Laws.{CameFrom, SeenFrom, DecideAlike, SeesOnlyNearer, seen_input, seen_answer, LooksThrough, ChainLooksThrough}
 
 module _ (g h : Input → List Outside → Course) where
-  given_alike : (fate : Fate) (n : ℕ) (left : List Outside) → ((x : Input) → fate ≡ Back x → (ys : List Outside) → g x ys ≡ h x ys) → given_back g n left fate ≡ given_back h n left fate
-  given_alike (Back x) n left same = ap (behind_turns n) (same x refl left)
-  given_alike (Awaits question) n left same = refl
-  given_alike (Closes filter reason) n left same = refl
-  given_alike (Endless filter) n left same = refl
+  given_alike : (fate : Fate) (n : ℕ) (unused : List Outside) → ((x : Input) → fate ≡ Back x → (ys : List Outside) → g x ys ≡ h x ys) → given_back g n unused fate ≡ given_back h n unused fate
+  given_alike (Back x) n unused same = ap (behind_turns n) (same x refl unused)
+  given_alike (Awaits question) n unused same = refl
+  given_alike (Closes filter reason) n unused same = refl
+  given_alike (Endless filter) n unused same = refl
 
   gives_alike : (c : Course) → ((x : Input) → c.fate ≡ Back x → (ys : List Outside) → g x ys ≡ h x ys) → gives g c ≡ gives h c
-  gives_alike c same = given_alike c.fate c.turns c.left same
+  gives_alike c same = given_alike c.fate c.turns c.unused same
 
 asked_back : (question : Ask) (f : Outside → Input) (xs : List Outside) (x : Input) → (asked_outside question f xs).fate ≡ Back x → (y : Outside) × (f y ≡ x)
 asked_back question f [] x e = absurd (let z : Awaits question ≡ Back x = e in cc)
@@ -46,7 +46,7 @@ turns_alike : (n : ℕ) (one other : Way) (k : ℕ) (turn : Turn) (request : Con
 unfolding turns_on
 turns_alike zero one other k turn request main inputs alike xs = refl
 turns_alike (suc n) one other k turn request main inputs alike xs =
-    ap (behind_turns 1) (decided_alike one other k main (λ x left. turns_on n one k turn request main (inputs ++ x ∷ []) left) (λ x left. turns_on n other k turn request main (inputs ++ x ∷ []) left) alike (turn request inputs)
+    ap (behind_turns 1) (decided_alike one other k main (λ x unused. turns_on n one k turn request main (inputs ++ x ∷ []) unused) (λ x unused. turns_on n other k turn request main (inputs ++ x ∷ []) unused) alike (turn request inputs)
     (λ x came ys. turns_alike n one other k turn request main (inputs ++ x ∷ []) alike ys) xs)
 
 seen_more : (nearer : Way) (main : Bool) (turn : Turn) (request : Contents) (before inputs : List Input) (x : Input)
@@ -62,8 +62,8 @@ turns_by_seen : (n : ℕ) (nearer : Way) (k : ℕ) (one other : Turn) (request :
 unfolding turns_on
 turns_by_seen zero nearer k one other request main inputs alike seen xs = refl
 turns_by_seen (suc n) nearer k one other request main inputs alike seen xs =
-    let g : Input → List Outside → Course = λ x left. turns_on n nearer k one request main (inputs ++ x ∷ []) left in
-    let h : Input → List Outside → Course = λ x left. turns_on n nearer k other request main (inputs ++ x ∷ []) left in
+    let g : Input → List Outside → Course = λ x unused. turns_on n nearer k one request main (inputs ++ x ∷ []) unused in
+    let h : Input → List Outside → Course = λ x unused. turns_on n nearer k other request main (inputs ++ x ∷ []) unused in
     ap (behind_turns 1)
     (decided_alike nearer nearer k main g h (λ m b ys. refl) (one request inputs)
     (λ x came ys. turns_by_seen n nearer k one other request main (inputs ++ x ∷ []) alike (seen_more nearer main one request [] inputs x seen came) ys) xs
@@ -94,20 +94,20 @@ module _ (view : Contents → Contents) where
   verdicts_same outside.NoResponse = refl
   verdicts_same (outside.Verdict verdict) = refl
 
-  -- the same, with the function on the answers that are left
+  -- the same, with the function on the answers that are unused
   abbrev through : Course → Course
-  through c = record { fate = c.fate; left = map (seen_answer view) c.left; turns = c.turns }
+  through c = record { fate = c.fate; unused = map (seen_answer view) c.unused; turns = c.turns }
 
   abbrev Passes : Way → Type 0
   Passes way = (m : Contents) (main : Bool) (xs : List Outside) → way m main (map (seen_answer view) xs) ≡ through (way m main xs)
 
   module _ (g h : Input → List Outside → Course) where
-    given_through : (fate : Fate) (n : ℕ) (left : List Outside) → ((x : Input) (ys : List Outside) → h x (map (seen_answer view) ys) ≡ through (g x ys))
-        → given_back h n (map (seen_answer view) left) fate ≡ through (given_back g n left fate)
-    given_through (Back x) n left same = ap (behind_turns n) (same x left)
-    given_through (Awaits question) n left same = refl
-    given_through (Closes filter reason) n left same = refl
-    given_through (Endless filter) n left same = refl
+    given_through : (fate : Fate) (n : ℕ) (unused : List Outside) → ((x : Input) (ys : List Outside) → h x (map (seen_answer view) ys) ≡ through (g x ys))
+        → given_back h n (map (seen_answer view) unused) fate ≡ through (given_back g n unused fate)
+    given_through (Back x) n unused same = ap (behind_turns n) (same x unused)
+    given_through (Awaits question) n unused same = refl
+    given_through (Closes filter reason) n unused same = refl
+    given_through (Endless filter) n unused same = refl
 
     -- an ask whose answer is looked at through the function
     asked_through : (question : Ask) (f : Outside → Input) → ((x : Outside) → f (seen_answer view x) ≡ seen_input view (f x))
@@ -118,11 +118,11 @@ module _ (view : Contents → Contents) where
 
   hold_through : (question : Ask) (xs : List Outside) → asked_outside question as_verdict (map (seen_answer view) xs) ≡ through (asked_outside question as_verdict xs)
   hold_through question [] = refl
-  hold_through question (x ∷ xs) = ap (λ i. record { fate = Back i; left = map (seen_answer view) xs; turns = 0 }) (verdicts_same x)
+  hold_through question (x ∷ xs) = ap (λ i. record { fate = Back i; unused = map (seen_answer view) xs; turns = 0 }) (verdicts_same x)
 
   gives_through : (g : Input → List Outside → Course) → ((x : Input) (ys : List Outside) → g x (map (seen_answer view) ys) ≡ through (g x ys))
       → (c d : Course) → d ≡ through c → gives g d ≡ through (gives g c)
-  gives_through g same c d e = ap (gives g) e ∙ given_through g g c.fate c.turns c.left same
+  gives_through g same c d e = ap (gives g) e ∙ given_through g g c.fate c.turns c.unused same
 
   decided_through : (nearer : Way) (k : ℕ) (main : Bool) (g : Input → List Outside → Course) → Passes nearer
       → ((x : Input) (ys : List Outside) → g x (map (seen_answer view) ys) ≡ through (g x ys))
@@ -138,7 +138,7 @@ module _ (view : Contents → Contents) where
   unfolding turns_on
   turns_through zero nearer k turn request main inputs passes xs = refl
   turns_through (suc n) nearer k turn request main inputs passes xs =
-      ap (behind_turns 1) (decided_through nearer k main (λ x left. turns_on n nearer k turn request main (inputs ++ x ∷ []) left) passes (λ x ys. turns_through n nearer k turn request main (inputs ++ x ∷ []) passes ys) xs (turn request inputs))
+      ap (behind_turns 1) (decided_through nearer k main (λ x unused. turns_on n nearer k turn request main (inputs ++ x ∷ []) unused) passes (λ x ys. turns_through n nearer k turn request main (inputs ++ x ∷ []) passes ys) xs (turn request inputs))
 
   module _ (last : Turn) (looks : LooksThrough view last) where
     decided_last : (k : ℕ) (main : Bool) (g h : Input → List Outside → Course)
@@ -155,8 +155,8 @@ module _ (view : Contents → Contents) where
     unfolding turns_on
     turns_last zero k request main inputs xs = refl
     turns_last (suc n) k request main inputs xs =
-        let g : Input → List Outside → Course = λ x left. turns_on n broker k last request main (inputs ++ x ∷ []) left in
-        let h : Input → List Outside → Course = λ x left. turns_on n broker k last request main (map (seen_input view) inputs ++ x ∷ []) left in
+        let g : Input → List Outside → Course = λ x unused. turns_on n broker k last request main (inputs ++ x ∷ []) unused in
+        let h : Input → List Outside → Course = λ x unused. turns_on n broker k last request main (map (seen_input view) inputs ++ x ∷ []) unused in
         ap (behind_turns 1)
         (ap (λ D. decided broker k main h (map (seen_answer view) xs) D) (looks request inputs)
         ∙ decided_last k main g h

@@ -26,17 +26,17 @@ drop_one (g ∷ fs) (suc n) f rest h = drop_one fs n f rest h
 
 module _ {F P : Type 0} (turn : F → Turn) (stands : F → P → Contents → List Input → Type 0) where
   -- Filter f, with so many before it, is at its turn.
-  pub record AtTurn (chain : List F) (ss : List (Suspended P)) (f : F) (request : Contents) (main : Bool) (inputs : List Input) (left n : ℕ) (whole : List Outside → Course) : Type 0 where
+  pub record AtTurn (chain : List F) (ss : List (Suspended P)) (f : F) (request : Contents) (main : Bool) (inputs : List Input) (unused n : ℕ) (whole : List Outside → Course) : Type 0 where
     pub ds : List Suspension
     pub are : AreSuspended turn stands 0 chain ss ds
     pub rest : List F
     pub at : drop (length ss) chain ≡ f ∷ rest
-    pub goes : (xs : List Outside) → whole xs ≡ behind_turns n (resumed ds (turns_on (suc left) (way_from (suc (length ss)) (map turn rest)) (length ss) (turn f) request main inputs xs))
+    pub goes : (xs : List Outside) → whole xs ≡ behind_turns n (resumed ds (turns_on (suc unused) (way_from (suc (length ss)) (map turn rest)) (length ss) (turn f) request main inputs xs))
 
-  module _ (chain : List F) (ss : List (Suspended P)) (f : F) (request : Contents) (main : Bool) (inputs : List Input) (left n : ℕ) (whole : List Outside → Course) (a : AtTurn chain ss f request main inputs left n whole) where
+  module _ (chain : List F) (ss : List (Suspended P)) (f : F) (request : Contents) (main : Bool) (inputs : List Input) (unused n : ℕ) (whole : List Outside → Course) (a : AtTurn chain ss f request main inputs unused n whole) where
     -- the filter, once it waits
     abbrev waits : Suspension
-    waits = record { number = length ss; turn = turn f; nearer = way_from (suc (length ss)) (map turn a.rest); request = request; main = main; inputs = inputs; left = left }
+    waits = record { number = length ss; turn = turn f; nearer = way_from (suc (length ss)) (map turn a.rest); request = request; main = main; inputs = inputs; unused = unused }
 
     by_decision : (D : Decision) → turn f request inputs ≡ D → (xs : List Outside)
         → whole xs ≡ behind_turns (n + 1) (resumed a.ds (decided (way_from (suc (length ss)) (map turn a.rest)) (length ss) main (given_next waits) xs D))
@@ -44,21 +44,21 @@ module _ {F P : Type 0} (turn : F → Turn) (stands : F → P → Contents → L
         let N = way_from (suc (length ss)) (map turn a.rest) in
         let c = decided N (length ss) main (given_next waits) xs D in
         a.goes xs
-        ∙ ap (λ c. behind_turns n (resumed a.ds c)) (one_turn left N (length ss) (turn f) request main inputs xs ∙ ap (λ D. behind_turns 1 (decided N (length ss) main (given_next waits) xs D)) h)
+        ∙ ap (λ c. behind_turns n (resumed a.ds c)) (one_turn unused N (length ss) (turn f) request main inputs xs ∙ ap (λ D. behind_turns 1 (decided N (length ss) main (given_next waits) xs D)) h)
         ∙ ap (behind_turns n) (resumed_behind a.ds 1 c)
         ∙ behind_twice n 1 (resumed a.ds c)
 
-    are_with : (p : P) → stands f p request inputs → AreSuspended turn stands 0 chain (ss ++ record { pending = p; main = main; left = left } ∷ []) (a.ds ++ waits ∷ [])
+    are_with : (p : P) → stands f p request inputs → AreSuspended turn stands 0 chain (ss ++ record { pending = p; main = main; unused = unused } ∷ []) (a.ds ++ waits ∷ [])
     are_with p keeps =
-        suspend turn stands 0 chain ss a.ds (record { pending = p; main = main; left = left }) waits f a.rest a.are a.at
+        suspend turn stands 0 chain ss a.ds (record { pending = p; main = main; unused = unused }) waits f a.rest a.are a.at
         (record { number_is = let e : length ss ≡ 0 + length ss = omega arith in e; turn_is = refl; nearer_is = ap (λ k. way_from (suc k) (map turn a.rest)) (let e : length ss ≡ 0 + length ss = omega arith in e); main_is = refl; left_is = refl; keeps = keeps })
 
     -- the message goes on behind it
     passes_on : (p : P) (m : Contents) (b : Bool) (xs : List Outside)
         → resumed a.ds (gives (given_next waits) (way_from (suc (length ss)) (map turn a.rest) m b xs))
-        ≡ resumed (a.ds ++ waits ∷ []) (way_from (length (ss ++ record { pending = p; main = main; left = left } ∷ [])) (map turn (drop (length (ss ++ record { pending = p; main = main; left = left } ∷ [])) chain)) m b xs)
+        ≡ resumed (a.ds ++ waits ∷ []) (way_from (length (ss ++ record { pending = p; main = main; unused = unused } ∷ [])) (map turn (drop (length (ss ++ record { pending = p; main = main; unused = unused } ∷ [])) chain)) m b xs)
     passes_on p m b xs =
-        let s : Suspended P = record { pending = p; main = main; left = left } in
+        let s : Suspended P = record { pending = p; main = main; unused = unused } in
         let e : suc (length ss) ≡ length (ss ++ s ∷ []) = sym (one_longer ss s) in
         let r : a.rest ≡ drop (length (ss ++ s ∷ [])) chain = sym (drop_one chain (length ss) f a.rest a.at) ∙ ap (λ k. drop k chain) e in
         sym (resumed_last a.ds waits (way_from (suc (length ss)) (map turn a.rest) m b xs))
@@ -67,7 +67,7 @@ module _ {F P : Type 0} (turn : F → Turn) (stands : F → P → Contents → L
 
     -- the filter's move leads on
     pub turned : (made : Move P) → Makes (λ p. stands f p request inputs) (turn f request inputs) made
-        → StandFor turn stands chain (ss ++ kept main left made) (next_of (length ss) main made) (n + 1) whole
+        → StandFor turn stands chain (ss ++ kept main unused made) (next_of (length ss) main made) (n + 1) whole
     turned (move.Forward m p) h = record { suspensions = a.ds ++ waits ∷ []; are = are_with p h.1; goes = λ xs. by_decision (Forward m) h.0 xs ∙ ap (behind_turns (n + 1)) (passes_on p m main xs) }
     turned (move.Side m p) h = record { suspensions = a.ds ++ waits ∷ []; are = are_with p h.1; goes = λ xs. by_decision (Side m) h.0 xs ∙ ap (behind_turns (n + 1)) (passes_on p m false xs) }
     turned (move.Hold key p) h = record { suspensions = a.ds ++ waits ∷ []; are = are_with p h.1; goes = λ xs. by_decision (HoldFor key) h.0 xs ∙ ap (behind_turns (n + 1)) (sym (resumed_last a.ds waits (asked_outside (ask.Hold (length ss) key) as_verdict xs))) }
@@ -96,7 +96,7 @@ module _ {F P : Type 0} (turn : F → Turn) (stands : F → P → Contents → L
   pub asks_broker : (chain : List F) (ss : List (Suspended P)) (m : Contents) (main : Bool) (n : ℕ) (whole : List Outside → Course)
       → slice_get chain (length ss) ≡ None
       → StandFor turn stands chain ss (next.Passes (passing.Message m main)) n whole
-      → StandFor turn stands chain ss (next.Stops (stop.Asks (ask.Broker m main))) n whole
+      → StandFor turn stands chain ss (next.Stops (stop.Needs (ask.Broker m main))) n whole
   asks_broker chain ss m main n whole h s =
       record {
         suspensions = s.suspensions;
@@ -105,11 +105,11 @@ module _ {F P : Type 0} (turn : F → Turn) (stands : F → P → Contents → L
       }
 
   -- something comes back to the filter that was suspended last
-  pub resumes : (chain : List F) (ss : List (Suspended P)) (last : Suspended P) (f : F) (x : Input) (left n : ℕ) (whole : List Outside → Course)
-      → slice_get chain (length ss) ≡ Some f → last.left ≡ suc left
+  pub resumes : (chain : List F) (ss : List (Suspended P)) (last : Suspended P) (f : F) (x : Input) (unused n : ℕ) (whole : List Outside → Course)
+      → slice_get chain (length ss) ≡ Some f → last.unused ≡ suc unused
       → StandFor turn stands chain (ss ++ last ∷ []) (next.Passes (passing.Input x)) n whole
-      → (request : Contents) × (inputs : List Input) × stands f last.pending request inputs × AtTurn chain ss f request last.main (inputs ++ x ∷ []) left n whole
-  resumes chain ss last f x left n whole h more s =
+      → (request : Contents) × (inputs : List Input) × stands f last.pending request inputs × AtTurn chain ss f request last.main (inputs ++ x ∷ []) unused n whole
+  resumes chain ss last f x unused n whole h more s =
       let r = release turn stands 0 chain ss last s.suspensions s.are in
       let z : 0 + length ss ≡ length ss = omega arith in
       let at = found_first chain (length ss) f h in
@@ -125,13 +125,13 @@ module _ {F P : Type 0} (turn : F → Turn) (stands : F → P → Contents → L
           rest = r.rest;
           at = r.at ∙ ap (λ g. g ∷ r.rest) e1;
           goes = λ xs.
-              let c : Course = record { fate = Back x; left = xs; turns = 0 } in
-              let whose : turns_on d.left d.nearer d.number d.turn d.request d.main (d.inputs ++ x ∷ []) xs ≡ turns_on (suc left) (way_from (suc (length ss)) (map turn r.rest)) (length ss) (turn f) d.request last.main (d.inputs ++ x ∷ []) xs =
+              let c : Course = record { fate = Back x; unused = xs; turns = 0 } in
+              let whose : turns_on d.unused d.nearer d.number d.turn d.request d.main (d.inputs ++ x ∷ []) xs ≡ turns_on (suc unused) (way_from (suc (length ss)) (map turn r.rest)) (length ss) (turn f) d.request last.main (d.inputs ++ x ∷ []) xs =
               ap (λ l. turns_on l d.nearer d.number d.turn d.request d.main (d.inputs ++ x ∷ []) xs) (r.is.left_is ∙ more)
-              ∙ ap (λ w. turns_on (suc left) w d.number d.turn d.request d.main (d.inputs ++ x ∷ []) xs) (r.is.nearer_is ∙ ap (λ k. way_from (suc k) (map turn r.rest)) z)
-              ∙ ap (λ k. turns_on (suc left) (way_from (suc (length ss)) (map turn r.rest)) k d.turn d.request d.main (d.inputs ++ x ∷ []) xs) (r.is.number_is ∙ z)
-              ∙ ap (λ t. turns_on (suc left) (way_from (suc (length ss)) (map turn r.rest)) (length ss) t d.request d.main (d.inputs ++ x ∷ []) xs) (r.is.turn_is ∙ ap turn e1)
-              ∙ ap (λ b. turns_on (suc left) (way_from (suc (length ss)) (map turn r.rest)) (length ss) (turn f) d.request b (d.inputs ++ x ∷ []) xs) r.is.main_is in
+              ∙ ap (λ w. turns_on (suc unused) w d.number d.turn d.request d.main (d.inputs ++ x ∷ []) xs) (r.is.nearer_is ∙ ap (λ k. way_from (suc k) (map turn r.rest)) z)
+              ∙ ap (λ k. turns_on (suc unused) (way_from (suc (length ss)) (map turn r.rest)) k d.turn d.request d.main (d.inputs ++ x ∷ []) xs) (r.is.number_is ∙ z)
+              ∙ ap (λ t. turns_on (suc unused) (way_from (suc (length ss)) (map turn r.rest)) (length ss) t d.request d.main (d.inputs ++ x ∷ []) xs) (r.is.turn_is ∙ ap turn e1)
+              ∙ ap (λ b. turns_on (suc unused) (way_from (suc (length ss)) (map turn r.rest)) (length ss) (turn f) d.request b (d.inputs ++ x ∷ []) xs) r.is.main_is in
               s.goes xs
               ∙ ap (λ es. behind_turns n (resumed es c)) r.split
               ∙ ap (behind_turns n) (resumed_last r.before d c)
@@ -148,7 +148,7 @@ module _ {F P : Type 0} (turn : F → Turn) (stands : F → P → Contents → L
   -- something comes back to the client
   pub comes_back : (chain : List F) (x : Input) (n : ℕ) (whole : List Outside → Course)
       → StandFor turn stands chain [] (next.Passes (passing.Input x)) n whole → StandFor turn stands chain [] (next.Stops (stop.Done x)) n whole
-  comes_back chain x n whole s = record { suspensions = []; are = tt; goes = λ xs. s.goes xs ∙ ap (λ ds. behind_turns n (resumed ds (record { fate = Back x; left = xs; turns = 0 }))) (none chain s.suspensions s.are) }
+  comes_back chain x n whole s = record { suspensions = []; are = tt; goes = λ xs. s.goes xs ∙ ap (λ ds. behind_turns n (resumed ds (record { fate = Back x; unused = xs; turns = 0 }))) (none chain s.suspensions s.are) }
 
   -- ---- the same as the functions' contracts say it
 
@@ -174,14 +174,14 @@ module _ {F P : Type 0} (turn : F → Turn) (stands : F → P → Contents → L
       let t = turned chain ss f m main [] 6 n whole (starts chain ss f m main n whole there s) made makes in
       (1, e3, subst (λ a. StandFor turn stands chain new a (n + 1) whole) (sym e1) (subst (λ ts. StandFor turn stands chain ts (next_of (length ss) main made) (n + 1) whole) (sym e2) t))
 
-  pub next_leads : (chain : List F) (old ss new : List (Suspended P)) (last : Suspended P) (f : F) (x : Input) (left : ℕ) (made : Move P) (nx : Next) (steps steps' : ℕ)
-      → old ≡ ss ++ last ∷ [] → slice_get chain (length ss) ≡ Some f → last.left ≡ suc left
+  pub next_leads : (chain : List F) (old ss new : List (Suspended P)) (last : Suspended P) (f : F) (x : Input) (unused : ℕ) (made : Move P) (nx : Next) (steps steps' : ℕ)
+      → old ≡ ss ++ last ∷ [] → slice_get chain (length ss) ≡ Some f → last.unused ≡ suc unused
       → ((request : Contents) (inputs : List Input) → stands f last.pending request inputs → Makes (λ p. stands f p request (inputs ++ x ∷ [])) (turn f request (inputs ++ x ∷ [])) made)
-      → nx ≡ next_of (length ss) last.main made → new ≡ ss ++ kept last.main left made → steps' ≡ steps + 1
+      → nx ≡ next_of (length ss) last.main made → new ≡ ss ++ kept last.main unused made → steps' ≡ steps + 1
       → Leads turn stands chain old (next.Passes (passing.Input x)) steps new nx steps'
-  next_leads chain old ss new last f x left made nx steps steps' e there more makes e1 e2 e3 n whole s =
-      let r = resumes chain ss last f x left n whole there more (subst (λ ts. StandFor turn stands chain ts (next.Passes (passing.Input x)) n whole) e s) in
-      let t = turned chain ss f r.0 last.main (r.1 ++ x ∷ []) left n whole r.3 made (makes r.0 r.1 r.2) in
+  next_leads chain old ss new last f x unused made nx steps steps' e there more makes e1 e2 e3 n whole s =
+      let r = resumes chain ss last f x unused n whole there more (subst (λ ts. StandFor turn stands chain ts (next.Passes (passing.Input x)) n whole) e s) in
+      let t = turned chain ss f r.0 last.main (r.1 ++ x ∷ []) unused n whole r.3 made (makes r.0 r.1 r.2) in
       (1, e3, subst (λ a. StandFor turn stands chain new a (n + 1) whole) (sym e1) (subst (λ ts. StandFor turn stands chain ts (next_of (length ss) last.main made) (n + 1) whole) (sym e2) t))
 
 -- from what is known of an answer, and of all that holds with it

@@ -25,7 +25,7 @@ pub data Fate : Type 0 where
 pub record Course : Type 0 where
   pub fate : Fate
   -- the answers from outside that weren't used
-  pub left : List Outside
+  pub unused : List Outside
   -- how many turns filters had
   pub turns : ℕ
 
@@ -36,12 +36,12 @@ Way = Contents → Bool → List Outside → Course
 
 -- with so many turns before
 abbrev pub behind_turns : ℕ → Course → Course
-behind_turns n c = record { fate = c.fate; left = c.left; turns = n + c.turns }
+behind_turns n c = record { fate = c.fate; unused = c.unused; turns = n + c.turns }
 
 -- who asks takes the next answer, and waits where there is none
 abbrev pub asked_outside : Ask → (Outside → Input) → List Outside → Course
-asked_outside question as_given [] = record { fate = Awaits question; left = []; turns = 0 }
-asked_outside question as_given (x ∷ xs) = record { fate = Back (as_given x); left = xs; turns = 0 }
+asked_outside question as_given [] = record { fate = Awaits question; unused = []; turns = 0 }
+asked_outside question as_given (x ∷ xs) = record { fate = Back (as_given x); unused = xs; turns = 0 }
 
 -- behind the last filter stands the broker
 abbrev pub broker : Way
@@ -49,13 +49,13 @@ broker message main xs = asked_outside (ask.Broker message main) as_answer xs
 
 -- What comes back for a message goes on so. Else what became of the message becomes of the request.
 abbrev pub given_back : (Input → List Outside → Course) → ℕ → List Outside → Fate → Course
-given_back given_next n left (Back x) = behind_turns n (given_next x left)
-given_back given_next n left (Awaits question) = record { fate = Awaits question; left = left; turns = n }
-given_back given_next n left (Closes filter reason) = record { fate = Closes filter reason; left = left; turns = n }
-given_back given_next n left (Endless filter) = record { fate = Endless filter; left = left; turns = n }
+given_back given_next n unused (Back x) = behind_turns n (given_next x unused)
+given_back given_next n unused (Awaits question) = record { fate = Awaits question; unused = unused; turns = n }
+given_back given_next n unused (Closes filter reason) = record { fate = Closes filter reason; unused = unused; turns = n }
+given_back given_next n unused (Endless filter) = record { fate = Endless filter; unused = unused; turns = n }
 
 abbrev pub gives : (Input → List Outside → Course) → Course → Course
-gives given_next c = given_back given_next c.turns c.left c.fate
+gives given_next c = given_back given_next c.turns c.unused c.fate
 
 -- What becomes of a request by the decision of filter `k`. What the filter forwards, or asks aside, goes through those
 -- nearer the broker alone (`nearer`), and so does what comes back. A main request goes on as the main one, and what is
@@ -64,14 +64,14 @@ abbrev pub decided : (nearer : Way) (k : ℕ) (main : Bool) (given_next : Input 
 decided nearer k main given_next xs (Forward message) = gives given_next (nearer message main xs)
 decided nearer k main given_next xs (Side message) = gives given_next (nearer message false xs)
 decided nearer k main given_next xs (HoldFor key) = gives given_next (asked_outside (ask.Hold k key) as_verdict xs)
-decided nearer k main given_next xs (Return response) = record { fate = Back (input_with response); left = xs; turns = 0 }
-decided nearer k main given_next xs (Shut reason) = record { fate = Closes k reason; left = xs; turns = 0 }
+decided nearer k main given_next xs (Return response) = record { fate = Back (input_with response); unused = xs; turns = 0 }
+decided nearer k main given_next xs (Shut reason) = record { fate = Closes k reason; unused = xs; turns = 0 }
 
 -- Filter `k` has its turns on a request, so many at most, from these inputs on.
 unfoldable pub turns_on : (most : ℕ) (nearer : Way) (k : ℕ) → Turn → Contents → Bool → List Input → List Outside → Course
-turns_on zero nearer k turn request main inputs xs = record { fate = Endless k; left = xs; turns = 0 }
+turns_on zero nearer k turn request main inputs xs = record { fate = Endless k; unused = xs; turns = 0 }
 turns_on (suc n) nearer k turn request main inputs xs =
-    behind_turns 1 (decided nearer k main (λ x left. turns_on n nearer k turn request main (inputs ++ x ∷ []) left) xs (turn request inputs))
+    behind_turns 1 (decided nearer k main (λ x unused. turns_on n nearer k turn request main (inputs ++ x ∷ []) unused) xs (turn request inputs))
 
 -- a filter is given six inputs at most, so it has seven turns
 abbrev pub most_turns : ℕ

@@ -37,9 +37,9 @@ IsSettled _ = Unit {0}
 -- What was used of the answers is a front of them. What comes behind it makes no difference, and who asks has used all.
 pub record UsesFront (way : List Outside → Course) (xs : List Outside) : Type 0 where
   pub used : List Outside
-  pub front : xs ≡ used ++ (way xs).left
-  pub whatever_follows : IsSettled (way xs).fate → (more : List Outside) → way (used ++ more) ≡ record { fate = (way xs).fate; left = more; turns = (way xs).turns }
-  pub all_used : (ask : Ask) → (way xs).fate ≡ Awaits ask → (way xs).left ≡ []
+  pub front : xs ≡ used ++ (way xs).unused
+  pub whatever_follows : IsSettled (way xs).fate → (more : List Outside) → way (used ++ more) ≡ record { fate = (way xs).fate; unused = more; turns = (way xs).turns }
+  pub all_used : (ask : Ask) → (way xs).fate ≡ Awaits ask → (way xs).unused ≡ []
 
 abbrev pub AnswersAreUsedInOrder : Type 0
 AnswersAreUsedInOrder =

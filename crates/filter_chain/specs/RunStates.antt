@@ -15,14 +15,14 @@ use Rattle.filter_chain.specs.Outcomes.{Needs, Completed, Shuts, course, run, tu
 use Rattle.filter_chain.specs.Suspensions.{StandFor, awaited_by}
 
 -- how often a run may ask once more
-abbrev pub budget_left : {P : Type 0} → Run P → ℕ
-budget_left r = ask_limit - r.book
+abbrev pub budget_unused : {P : Type 0} → Run P → ℕ
+budget_unused r = ask_limit - r.book
 
 -- how often a request that stands so may ask, with what it asks now
-abbrev pub state_budget_left : {P : Type 0} → State P → ℕ
-state_budget_left (state.Needs r ask) = suc (budget_left r)
-state_budget_left (state.Done response) = 0
-state_budget_left (state.Shut cause) = 0
+abbrev pub state_budget_unused : {P : Type 0} → State P → ℕ
+state_budget_unused (state.Needs r ask) = suc (budget_unused r)
+state_budget_unused (state.Done response) = 0
+state_budget_unused (state.Shut cause) = 0
 
 module _ {F P : Type 0} (turn : F → Turn) (stands : F → P → Contents → List Input → Type 0) where
   -- the run is that of a request which was given so much, under the chain
@@ -30,7 +30,7 @@ module _ {F P : Type 0} (turn : F → Turn) (stands : F → P → Contents → L
     pub ask : Ask
     pub awaits : r.awaits ≡ awaited_by ask
     pub asked : r.book ≡ suc (length given)
-    pub stand : StandFor turn stands chain r.suspended.items (next.Stops (stop.Asks ask)) (turns (map turn chain) request given) (λ more. course (map turn chain) request (given ++ more))
+    pub stand : StandFor turn stands chain r.suspended.items (next.Stops (stop.Needs ask)) (turns (map turn chain) request given) (λ more. course (map turn chain) request (given ++ more))
 
   -- the state is that of the request
   abbrev pub IsState : List F → Contents → List Outside → State P → Type 0

@@ -36,11 +36,11 @@ pub record Suspension : Type 0 where
   pub main : Bool
   pub inputs : List Input
   -- how many turns it may still have
-  pub left : ℕ
+  pub unused : ℕ
 
 -- it is given this
 abbrev pub given_next : Suspension → Input → List Outside → Course
-given_next d x xs = turns_on d.left d.nearer d.number d.turn d.request d.main (d.inputs ++ x ∷ []) xs
+given_next d x xs = turns_on d.unused d.nearer d.number d.turn d.request d.main (d.inputs ++ x ∷ []) xs
 
 -- what becomes of the request, by what becomes of the message that the last of these sent
 abbrev pub resumed : List Suspension → Course → Course
@@ -58,24 +58,24 @@ awaited_by (ask.Hold filter key) = awaited.Verdict
 
 -- what becomes of a message that stopped, while these wait
 abbrev pub stopped : List Suspension → Stop → List Outside → Course
-stopped ds (stop.Asks question) xs = resumed ds (asked_outside question (as_awaited (awaited_by question)) xs)
-stopped ds (stop.Done input) xs = record { fate = Back input; left = xs; turns = 0 }
-stopped ds (stop.Shut filter reason) xs = record { fate = Closes filter reason; left = xs; turns = 0 }
+stopped ds (stop.Needs question) xs = resumed ds (asked_outside question (as_awaited (awaited_by question)) xs)
+stopped ds (stop.Done input) xs = record { fate = Back input; unused = xs; turns = 0 }
+stopped ds (stop.Shut filter reason) xs = record { fate = Closes filter reason; unused = xs; turns = 0 }
 
 -- What follows filter `k`'s move, and who waits after it.
 abbrev pub next_of : {P : Type 0} → ℕ → Bool → Move P → Next
 next_of k main (move.Forward message pending) = next.Passes (passing.Message message main)
 next_of k main (move.Side message pending) = next.Passes (passing.Message message false)
-next_of k main (move.Hold key pending) = next.Stops (stop.Asks (ask.Hold k key))
+next_of k main (move.Hold key pending) = next.Stops (stop.Needs (ask.Hold k key))
 next_of k main (move.Return response) = next.Passes (passing.Input (input_with response))
 next_of k main (move.Shut reason) = next.Stops (stop.Shut k reason)
 
 abbrev pub kept : {P : Type 0} → Bool → ℕ → Move P → List (Suspended P)
-kept main left (move.Forward message pending) = record { pending = pending; main = main; left = left } ∷ []
-kept main left (move.Side message pending) = record { pending = pending; main = main; left = left } ∷ []
-kept main left (move.Hold key pending) = record { pending = pending; main = main; left = left } ∷ []
-kept main left (move.Return response) = []
-kept main left (move.Shut reason) = []
+kept main unused (move.Forward message pending) = record { pending = pending; main = main; unused = unused } ∷ []
+kept main unused (move.Side message pending) = record { pending = pending; main = main; unused = unused } ∷ []
+kept main unused (move.Hold key pending) = record { pending = pending; main = main; unused = unused } ∷ []
+kept main unused (move.Return response) = []
+kept main unused (move.Shut reason) = []
 
 module _ {F P : Type 0} (turn : F → Turn) (stands : F → P → Contents → List Input → Type 0) where
   -- a filter, with what the code and what the rules know of it, is suspended before the others
@@ -84,7 +84,7 @@ module _ {F P : Type 0} (turn : F → Turn) (stands : F → P → Contents → L
     pub turn_is : d.turn ≡ turn f
     pub nearer_is : d.nearer ≡ way_from (suc k) (map turn nearer)
     pub main_is : d.main ≡ s.main
-    pub left_is : d.left ≡ s.left
+    pub left_is : d.unused ≡ s.unused
     pub keeps : stands f s.pending d.request d.inputs
 
   -- the first of these filters, from number k on, are those that are suspended
@@ -96,7 +96,7 @@ module _ {F P : Type 0} (turn : F → Turn) (stands : F → P → Contents → L
   -- what becomes of what passes behind so many suspended filters
   abbrev pub passed_on : List F → ℕ → Passing → List Outside → Course
   passed_on chain n (passing.Message message main) xs = way_from n (map turn (drop n chain)) message main xs
-  passed_on chain n (passing.Input input) xs = record { fate = Back input; left = xs; turns = 0 }
+  passed_on chain n (passing.Input input) xs = record { fate = Back input; unused = xs; turns = 0 }
 
   abbrev pub comes_to : List F → List Suspension → ℕ → Next → List Outside → Course
   comes_to chain ds n (next.Passes p) xs = resumed ds (passed_on chain n p xs)
@@ -116,9 +116,9 @@ module _ {F P : Type 0} (turn : F → Turn) (stands : F → P → Contents → L
 
 -- How a request that stopped stands, with so many asks before.
 abbrev pub IsConclusion : {P : Type 0} → List (Suspended P) → ℕ → Stop → State P → Type 0
-IsConclusion ss asked (stop.Asks question) (state.Needs r ask) =
+IsConclusion ss asked (stop.Needs question) (state.Needs r ask) =
     (ask ≡ question) × (asked < ask_limit) × (r.suspended.items ≡ ss) × (r.awaits ≡ awaited_by question) × (r.book ≡ asked + 1)
-IsConclusion ss asked (stop.Asks question) (state.Shut cause.AskBudget) = ask_limit ≤ asked
+IsConclusion ss asked (stop.Needs question) (state.Shut cause.AskBudget) = ask_limit ≤ asked
 IsConclusion ss asked (stop.Done input) (state.Done response) = response ≡ response_given input
 IsConclusion ss asked (stop.Shut k reason) (state.Shut (cause.Filter filter why)) = (filter ≡ k) × (why ≡ reason)
 IsConclusion ss asked _ _ = ⊥

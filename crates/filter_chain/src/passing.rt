@@ -14,7 +14,7 @@ pub enum Passing {
 /// Where nothing passes any more.
 #[derive(Drop)]
 pub enum Stop {
-    Asks(Ask),
+    Needs(Ask),
     Done(Input),
     Shut { filter: u32, reason: Reason },
 }

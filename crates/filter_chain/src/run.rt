@@ -3,7 +3,7 @@ ghost use Rattle.tree_spelling.specs.Body.{Contents};
 ghost use Rattle.filter_chain.specs.declared.outside.Outside.{Outside};
 ghost use Rattle.filter_chain.specs.Outcomes.{turns};
 ghost use Rattle.filter_chain.specs.Suspensions.{IsConclusion};
-ghost use Rattle.filter_chain.specs.RunStates.{IsState, RunsFor, budget_left, state_budget_left};
+ghost use Rattle.filter_chain.specs.RunStates.{IsState, RunsFor, budget_unused, state_budget_unused};
 
 use crate::awaited::Awaited;
 use crate::outside::Outside;
@@ -59,7 +59,7 @@ impl<P: Drop> Run<P> {
             → steps.new + turns (map F.turn chain.now) request given ≡ steps.old + turns (map F.turn chain.now) request (given ++ outside ∷ [])) }
 
         // It asks 64 times at most, so each poll leaves it fewer.
-        ensures fewer { IfOk result (λ state. state_budget_left state ≤ budget_left self) }
+        ensures fewer { IfOk result (λ state. state_budget_unused state ≤ budget_unused self) }
     {
         let mut suspended = self.suspended;
         let passing = Passing::Input(self.awaits.input_of(outside));
@@ -74,7 +74,7 @@ fn conclude<P: Drop>(suspended: Vec<Suspended<P>>, book: AskBook, stop: Stop) ->
 {
     let mut book = book;
     match stop {
-        Stop::Asks(ask) => {
+        Stop::Needs(ask) => {
             if book.next().is_none() {
                 return State::Shut(ShutCause::AskBudget);
             }

@@ -5,5 +5,5 @@ pub struct Suspended<P: Drop> {
     /// Whether its request is the main one.
     pub(crate) main: bool,
     /// How many turns it may still have.
-    pub(crate) left: u8,
+    pub(crate) unused: u8,
 }

@@ -64,7 +64,7 @@ fn first_turn<F: Filter, L>(
 {
     let Some(filter) = chain.get(suspended.len()) else {
         let request = message;
-        return Ok(Next::Stops(Stop::Asks(Ask::Broker { request, main })));
+        return Ok(Next::Stops(Stop::Needs(Ask::Broker { request, main })));
     };
     steps.tick();
     let made = filter.start(alloc, message)?;
@@ -85,7 +85,7 @@ fn next_turn<F: Filter, L>(
         return Ok(Next::Stops(Stop::Done(input)));
     };
     // A lawful filter goes on after six inputs no more.
-    let Some(left) = last.left.checked_sub(1) else {
+    let Some(unused) = last.unused.checked_sub(1) else {
         return Err(NoMemory);
     };
     let Some(filter) = chain.get(suspended.len()) else {
@@ -93,18 +93,18 @@ fn next_turn<F: Filter, L>(
     };
     steps.tick();
     let made = filter.resume(alloc, last.pending, input)?;
-    act(suspended, last.main, left, made)
+    act(suspended, last.main, unused, made)
 }
 
 /// What a filter's move leads to. A filter that goes on is suspended behind the others.
 fn act<P: Drop>(
     suspended: &mut Vec<Suspended<P>>,
     main: bool,
-    left: u8,
+    unused: u8,
     made: Move<P>,
 ) -> Result<Next, NoMemory>
     ensures next { IfOk result (λ next. next ≡ next_of (length suspended.old.items) main made) }
-    ensures suspended { OnOk result (suspended.new.items ≡ suspended.old.items ++ kept main left made) }
+    ensures suspended { OnOk result (suspended.new.items ≡ suspended.old.items ++ kept main unused made) }
 {
     let place = suspended.len();
     let Ok(filter) = u32::try_from(place) else {
@@ -118,14 +118,14 @@ fn act<P: Drop>(
             let main = false;
             (Next::Passes(Passing::Message { message, main }), pending)
         }
-        Move::Hold(key, pending) => (Next::Stops(Stop::Asks(Ask::Hold { filter, key })), pending),
+        Move::Hold(key, pending) => (Next::Stops(Stop::Needs(Ask::Hold { filter, key })), pending),
         Move::Return(response) => return Ok(Next::Passes(Passing::Input(Input::of(response)))),
         Move::Shut(reason) => return Ok(Next::Stops(Stop::Shut { filter, reason })),
     };
     suspended.push(Suspended {
         pending,
         main,
-        left,
+        unused,
     })?;
     Ok(next)
 }

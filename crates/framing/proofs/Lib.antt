@@ -2,4 +2,3 @@ pub mod Fronts
 pub mod Cutting
 pub mod Heads
 pub mod FramerHistory
-pub mod RequestStarts

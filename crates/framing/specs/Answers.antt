@@ -14,9 +14,7 @@ pub record TakesFrame (old : Feed) (frame : List ℕ) (new : Feed) : Type 0 wher
 -- a fact of a frame that was given
 abbrev pub IfFrame : {E : Type 0} → Result Next E → (List ℕ → Type 0) → Type 0
 IfFrame (Ok (Frame frame)) P = P frame
-IfFrame (Ok Wait) P = Unit {0}
-IfFrame (Ok (BadSize at size)) P = Unit {0}
-IfFrame (Err e) P = Unit {0}
+IfFrame _ _ = Unit {0}
 
 -- a fact for every answer but a frame
 abbrev pub UnlessFrame : {E : Type 0} → Result Next E → Type 0 → Type 0
@@ -27,7 +25,5 @@ UnlessFrame (Err e) P = P
 
 -- a fact of a bad size that was given
 abbrev pub IfBadSize : {E : Type 0} → Result Next E → (ℕ → ℤ → Type 0) → Type 0
-IfBadSize (Ok (Frame frame)) P = Unit {0}
-IfBadSize (Ok Wait) P = Unit {0}
 IfBadSize (Ok (BadSize at size)) P = P at size
-IfBadSize (Err e) P = Unit {0}
+IfBadSize _ _ = Unit {0}

@@ -1,7 +1,8 @@
 -- The heads of requests and responses: "Request Header v1" and "Response Header v0".
-use Rattle.std.specs.Prelude.{◌≡◌, ℕ, zero, suc, ◌+◌, ◌-◌, ◌≤◌, nat_le, Bool, true, false, ℤ, pos, negsuc, FitsSigned, List, ◌++◌, length, drop, slice_range, Option, None, Some}
+use Rattle.std.specs.Prelude.{◌≡◌, ℕ, zero, suc, ◌+◌, ◌-◌, ◌≤◌, nat_le, Bool, true, false, ℤ, pos, negsuc, FitsSigned, List, ◌++◌, length, take, drop, slice_range, Option, None, Some}
 use Rattle.std.specs.Int.{w16, w32}
 use Rattle.wire_types.specs.Numbers.{int16, int32, int16_at}
+use Rattle.wire_types.specs.Reading.{need}
 use Rattle.wire_types.specs.Strings.{string, IsString}
 use Rattle.framing.specs.declared.request_head.RequestHead.{RequestHead}
 use Rattle.framing.specs.declared.response_head.ResponseHead.{ResponseHead}
@@ -36,6 +37,18 @@ fits_string (Some (negsuc (suc below))) bytes = false
 -- client_id STRING stands behind the start
 abbrev pub has_client_id : List ℕ → Bool
 has_client_id frame = fits_string (int16_at (drop 8 frame)) (length (drop 8 frame))
+
+-- how many bytes the client id takes, which stands behind the correlation id
+abbrev pub client_id_length : List ℕ → ℕ
+client_id_length frame = need 2 (int16_at (drop 8 frame))
+
+-- the client id as it is spelled, a STRING
+abbrev pub client_id_spelled : List ℕ → List ℕ
+client_id_spelled frame = take (client_id_length frame) (drop 8 frame)
+
+-- the body of a request: what follows its client id
+abbrev pub request_body : List ℕ → List ℕ
+request_body frame = drop (client_id_length frame) (drop 8 frame)
 
 -- correlation_id INT32
 abbrev pub response_head : ResponseHead → List ℕ

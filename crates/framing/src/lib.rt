@@ -26,7 +26,7 @@ pub use laws::{
     frames_of_a_run, one_cut,
 };
 pub use next::Next;
-pub use request_head::{RequestHead, has_client_id, start};
+pub use request_head::{RequestHead, body_place, start};
 pub use response_head::ResponseHead;
 
 #[cfg(test)]

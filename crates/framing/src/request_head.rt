@@ -1,7 +1,7 @@
-ghost use Rattle.std.specs.Prelude.{◌≡◌, ℕ, ◌<◌, ◌≤◌, false, ◌↔◌, ℤ, List, ◌++◌, length, drop, IsNone, IfSome, MatchResult, IsErr, IsErrOf, IfOk, OnOk, OnErr};
+ghost use Rattle.std.specs.Prelude.{◌≡◌, ℕ, ◌+◌, ◌<◌, ◌≤◌, true, false, ◌↔◌, ℤ, List, ◌++◌, length, drop, IsNone, IfSome, MatchResult, IsErr, IsErrOf, IfOk, OnOk, OnErr};
 ghost use Rattle.std.specs.Option.{option_copied};
 ghost use Rattle.wire_types.specs.Strings.{IsTooLong};
-ghost use Rattle.framing.specs.Heads.{request_head, has_client_id, Starts, IsRequest, EndsAt};
+ghost use Rattle.framing.specs.Heads.{request_head, has_client_id, client_id_length, Starts, IsRequest, EndsAt};
 ghost use Rattle.framing.specs.RequestStarts.{request_key, request_version, request_number};
 
 use crate::head_fault::HeadFault;
@@ -42,12 +42,17 @@ pub fn start(frame: &[u8]) -> Option<(i16, i16, i32)>
     Some((key, version, correlation_id))
 }
 
-/// Whether client_id STRING stands behind the start of a request's frame.
-pub fn has_client_id(frame: &[u8]) -> bool
+/// Where the body of a request's frame begins, if client_id STRING stands behind its start.
+pub fn body_place(frame: &[u8]) -> Option<usize>
     requires { 8 ≤ length frame.now }
-    ensures { result ≡ has_client_id frame.now }
+    ensures some { IfSome result (λ place. (has_client_id frame.now ≡ true) × (place ≡ 8 + client_id_length frame.now) × (place ≤ length frame.now)) }
+    ensures none { IsNone result → has_client_id frame.now ≡ false }
 {
-    Reader::new(frame.split_at(START).1).string().is_ok()
+    let mut reader = Reader::new(frame.split_at(START).1);
+    match reader.string() {
+        Ok(_) => Some(START + reader.at()),
+        Err(_) => None,
+    }
 }
 
 impl RequestHead {

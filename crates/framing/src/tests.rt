@@ -98,26 +98,31 @@ const STREAMS: [&[Step]; 8] = [
     ],
 ];
 
-fn is_said(next: &Next, said: &Said) -> bool {
-    match (next, said) {
-        (Next::Frame(frame), Said::Frame(bytes)) => frame.as_slice() == *bytes,
-        (Next::Wait, Said::Wait) => true,
-        (Next::BadSize { at, size }, Said::BadSize(place, number)) => at == place && size == number,
-        _ => false,
+fn next_of(said: &Said) -> Next {
+    match said {
+        Said::Frame(bytes) => Next::Frame(Bytes::from_static(*bytes)),
+        Said::Wait => Next::Wait,
+        Said::BadSize(at, size) => Next::BadSize {
+            at: *at,
+            size: *size,
+        },
     }
 }
 
 #[test]
 fn says_what_comes_next(rt: HostRuntime) -> Result<(), Fail> {
-    for stream in STREAMS {
+    for (row, stream) in STREAMS.iter().enumerate() {
         let mut framer = Framer::new(rt.alloc(), 8, 104857600);
-        for step in stream {
+        for step in *stream {
             framer.feed(step.piece).ok().ok_or("memory")?;
             for said in step.said {
                 let next = framer.next().ok().ok_or("memory")?;
-                assert!(rt; is_said(&next, said), "{next:?}");
+                assert_eq!(rt; (row, next), (row, next_of(said)), "{:?}", step.piece);
             }
-            assert_eq!(rt; framer.rest(), step.rest, "behind {:?}", step.piece);
+            assert_eq!(rt;
+                (row, step.piece, framer.rest()),
+                (row, step.piece, step.rest)
+            );
         }
     }
     Ok(())
@@ -134,11 +139,11 @@ fn feed_byte(framer: &mut Framer, byte: u8, given: &mut Vec<Bytes>) -> Result<()
 
 #[test]
 fn gives_the_same_frames_byte_by_byte(rt: HostRuntime) -> Result<(), Fail> {
-    for stream in STREAMS {
+    for (row, stream) in STREAMS.iter().enumerate() {
         let mut framer = Framer::new(rt.alloc(), 8, 104857600);
         let mut given = Vec::new(rt.alloc());
         let mut wanted = Vec::new(rt.alloc());
-        for step in stream {
+        for step in *stream {
             for byte in step.piece {
                 feed_byte(&mut framer, *byte, &mut given)
                     .ok()
@@ -149,11 +154,14 @@ fn gives_the_same_frames_byte_by_byte(rt: HostRuntime) -> Result<(), Fail> {
                     wanted.push(*bytes)?;
                 }
             }
-            assert_eq!(rt; framer.rest(), step.rest);
+            assert_eq!(rt;
+                (row, step.piece, framer.rest()),
+                (row, step.piece, step.rest)
+            );
         }
-        assert_eq!(rt; given.len(), wanted.len());
-        for (frame, bytes) in given.iter().zip(&wanted) {
-            assert_eq!(rt; frame.as_slice(), *bytes);
+        assert_eq!(rt; (row, given.len()), (row, wanted.len()));
+        for (place, (frame, bytes)) in given.iter().zip(&wanted).enumerate() {
+            assert_eq!(rt; (row, place, frame.as_slice()), (row, place, *bytes));
         }
     }
     Ok(())
@@ -287,18 +295,19 @@ fn spelled(alloc: Global, head: &RequestHead, body: &Bytes) -> Result<Bytes, Put
 
 #[test]
 fn heads_of_requests(rt: HostRuntime) -> Result<(), Fail> {
-    for request in &REQUESTS {
+    for (row, request) in REQUESTS.iter().enumerate() {
         let frame = Bytes::from_static(request.frame);
-        assert_eq!(rt; start(frame.as_slice()), Some(request.start));
+        assert_eq!(rt; (row, start(frame.as_slice())), (row, Some(request.start)));
         let (head, body) = RequestHead::read(&frame).ok().ok_or("a head")?;
         assert_eq!(rt;
-            (head.key, head.version, head.correlation_id),
-            request.start
+            (row, (head.key, head.version, head.correlation_id)),
+            (row, request.start)
         );
-        assert_eq!(rt; head.client_id, request.client_id.map(Bytes::from_static));
-        assert_eq!(rt; body.as_slice(), request.body);
+        let client_id = head.client_id.as_ref().map(|id| id.as_slice());
+        assert_eq!(rt; (row, client_id), (row, request.client_id));
+        assert_eq!(rt; (row, body.as_slice()), (row, request.body));
         let again = spelled(rt.alloc(), &head, &body).ok().ok_or("memory")?;
-        assert_eq!(rt; again, frame);
+        assert_eq!(rt; (row, again.as_slice()), (row, request.frame));
     }
     Ok(())
 }
@@ -306,7 +315,8 @@ fn heads_of_requests(rt: HostRuntime) -> Result<(), Fail> {
 #[test]
 fn frames_with_no_head(rt: HostRuntime) {
     for (frame, fault) in NO_REQUESTS {
-        assert_eq!(rt; RequestHead::read(&Bytes::from_static(frame)), Err(fault));
+        let read = RequestHead::read(&Bytes::from_static(frame));
+        assert_eq!(rt; read, Err(fault), "{frame:?}");
     }
 }
 

@@ -69,7 +69,7 @@ pub enum End {
     AskBudget {
         request: u64,
     },
-    /// A response's body isn't spelled as its version is.
+    /// The body of an answer isn't spelled as its send asks, or has too many array entries.
     BrokerBadBody {
         request: u64,
         key: i16,
@@ -80,7 +80,7 @@ pub enum End {
         request: u64,
     },
 
-    /// The broker's stream ended at a frame's end, while this many messages that were sent have no response.
+    /// The broker's stream ended at a frame's end, while this many sends waited for an answer.
     BrokerEnd {
         waiting: u64,
     },
@@ -93,11 +93,11 @@ pub enum End {
         at: u64,
         size: i32,
     },
-    /// A response came while no request waited for one.
+    /// A broker's frame came while no send waited for an answer.
     Unasked {
         found: i32,
     },
-    /// A response has another correlation id than the request whose turn it is.
+    /// A broker's frame has another correlation id than the send that is due.
     Mismatch {
         expected: i32,
         found: i32,

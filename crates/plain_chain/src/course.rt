@@ -10,7 +10,7 @@ const BUDGET: usize = 64;
 #[derive(Clone, Copy, Debug, PartialEq, Eq)]
 pub enum Outcome {
     /// It waits for the response to this message.
-    Asks { message: Message, main: bool },
+    Sends { message: Message, main: bool },
     /// It waits for a verdict on the hold of this filter, counted from 0.
     Holds { filter: u32 },
     /// Its response, or that it gets none.
@@ -55,7 +55,7 @@ pub fn course_of(
     let mut turns = 0;
     let outcome = match walk(alloc, chain, 0, request, true, &mut outside, &mut turns)? {
         Fate::Back(response) => Outcome::Done(response),
-        Fate::Stops(Outcome::Asks { .. } | Outcome::Holds { .. }) if came.len() >= BUDGET => {
+        Fate::Stops(Outcome::Sends { .. } | Outcome::Holds { .. }) if came.len() >= BUDGET => {
             Outcome::AskBudget
         }
         Fate::Stops(outcome) => outcome,
@@ -75,7 +75,7 @@ fn walk(
 ) -> Result<Fate, AllocError> {
     let Some((kind, nearer)) = chain.split_first() else {
         return Ok(match next(outside) {
-            None => Fate::Stops(Outcome::Asks { message, main }),
+            None => Fate::Stops(Outcome::Sends { message, main }),
             Some((place, Came::Answer { key, version })) => {
                 let body = ResponseBody::Came(place);
                 Fate::Back(Some(Response { key, version, body }))

@@ -42,7 +42,7 @@ impl Plain {
         let chain = self.chain.as_slice();
         let course = course_of(self.alloc, chain, own, request.came.as_slice())?;
         Ok(Some(match course.outcome {
-            Outcome::Asks { message, main } => Status::Sends { message, main },
+            Outcome::Sends { message, main } => Status::Sends { message, main },
             Outcome::Holds { .. } => Status::Holds,
             Outcome::Done(response) => Status::Done(response),
             Outcome::Shut { filter, code } => Status::Fails(End::FilterShut {

@@ -16,7 +16,7 @@ use Rattle.tree_spelling.specs.Decoded.{Decoded, decoded, AllItems, BadAt, TooMa
 use Rattle.tree_spelling.proofs.Decoding.{decoded_is_spelled}
 use Rattle.framing.specs.Frames.{sized}
 use Rattle.framing.specs.CorrelationIds.{request_id}
-use Rattle.framing.specs.Heads.{has_client_id}
+use Rattle.framing.specs.Heads.{has_client_id, client_id_spelled, request_body, client_id_length}
 use Rattle.framing.specs.RequestStarts.{request_key, request_version}
 use Rattle.filter_core.specs.Acks.{has_acks_zero}
 use Rattle.filter_core.specs.Decision.{Turn}
@@ -27,7 +27,7 @@ use Rattle.filter_chain.specs.declared.outside.Outside as chains
 use Rattle.filter_chain.specs.Outcomes.{Outcome, Needs, Completed, Shuts, NeverEnds, run}
 use Rattle.conn_rules.specs.Meaning.{Meaning, Ask, ToBroker, Hold, Waits, Done}
 use Rattle.conn_rules.specs.State.{Outside, Body, NoResponse, Verdict, ListedSend}
-use Rattle.conn_core.specs.Requests.{client_id_spelled, request_of, request_body, request_decoded, client_id_length, is_silent, is_told_versions, versions_told, body_cause, frame_cause, answer_cause, response_decoded, response_read, items_read}
+use Rattle.conn_core.specs.Requests.{request_of, request_decoded, is_silent, is_told_versions, versions_told, body_cause, frame_cause, answer_cause, response_decoded, response_read, items_read}
 use Rattle.conn_core.specs.Chained.{taken_as, given_behind, given_to, most_out, grown_past, message_size, sent_for, responded, response_body, outcome_status, chain_outcome, chained}
 use Rattle.conn_core.proofs.Lasting.{given_later, done_is_completed}
 use Rattle.proxy_laws.specs.Coming.{MayBeGiven, MayHaveComeBehind, MayHaveCome}

@@ -26,23 +26,23 @@ fit_front way xs ys fit before x after question e awaits =
 
 module _ (way : List Outside → Course) (g : Input → List Outside → Course) where
   awaits_too : (ys : List Outside) (question : Ask) → (way ys).fate ≡ Awaits question → (gives g (way ys)).fate ≡ Awaits question
-  awaits_too ys question e = subst (λ c. (gives g c).fate ≡ Awaits question) (let z : record { fate = Awaits question; left = (way ys).left; turns = (way ys).turns } ≡ way ys = ap (λ f. record { fate = f; left = (way ys).left; turns = (way ys).turns }) (sym e) in z) refl
+  awaits_too ys question e = subst (λ c. (gives g c).fate ≡ Awaits question) (let z : record { fate = Awaits question; unused = (way ys).unused; turns = (way ys).turns } ≡ way ys = ap (λ f. record { fate = f; unused = (way ys).unused; turns = (way ys).turns }) (sym e) in z) refl
 
   -- what fits the whole fits the way to the broker
   pub fit_nearer : (xs : List Outside) → Fit (λ ys. gives g (way ys)) xs → Fit way xs
   fit_nearer xs fit before x after question e awaits = fit before x after question e (awaits_too before question awaits)
 
-  -- and what is left of it fits what goes on from there
+  -- and what is unused of it fits what goes on from there
   module _ (xs : List Outside) (u : UsesFront way xs) (x : Input) (back : (way xs).fate ≡ Back x) where
-    pub back_with : (more : List Outside) → way (u.used ++ more) ≡ record { fate = Back x; left = more; turns = (way xs).turns }
-    back_with more = u.whatever_follows (subst IsSettled (sym back) tt) more ∙ ap (λ f. record { fate = f; left = more; turns = (way xs).turns }) back
+    pub back_with : (more : List Outside) → way (u.used ++ more) ≡ record { fate = Back x; unused = more; turns = (way xs).turns }
+    back_with more = u.whatever_follows (subst IsSettled (sym back) tt) more ∙ ap (λ f. record { fate = f; unused = more; turns = (way xs).turns }) back
 
-    pub fit_used : (left : List Outside) → Fit (λ ys. gives g (way ys)) (u.used ++ left) → Fit (g x) left
-    fit_used left fit before y after question e awaits =
+    pub fit_used : (unused : List Outside) → Fit (λ ys. gives g (way ys)) (u.used ++ unused) → Fit (g x) unused
+    fit_used unused fit before y after question e awaits =
         fit (u.used ++ before) y after question (ap (λ l. u.used ++ l) e ∙ sym (append_assoc u.used before (y ∷ after))) (ap (λ (c : Course). (gives g c).fate) (back_with before) ∙ awaits)
 
-    pub fit_left : Fit (λ ys. gives g (way ys)) xs → Fit (g x) (way xs).left
-    fit_left fit = fit_used (way xs).left (subst (Fit (λ ys. gives g (way ys))) u.front fit)
+    pub fit_left : Fit (λ ys. gives g (way ys)) xs → Fit (g x) (way xs).unused
+    fit_left fit = fit_used (way xs).unused (subst (Fit (λ ys. gives g (way ys))) u.front fit)
 
 -- ---- a whole request
 

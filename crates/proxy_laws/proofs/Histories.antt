@@ -35,6 +35,16 @@ all_right : {X : Type 0} (P : X → Type 0) (xs ys : List X) → All P (xs ++ ys
 all_right P [] ys all = all
 all_right P (x ∷ xs) ys all = all_right P xs ys (All-tail P x (xs ++ ys) all)
 
+-- ---- acts
+
+pub either_act : (o later : Option Act) (act : Act) → or_else o later ≡ Some act → (o ≡ Some act) ⊎ (later ≡ Some act)
+either_act None later act e = inr e
+either_act (Some other) later act e = inl e
+
+pub only_below : (b : Bool) (o : Option Act) (act : Act) → (if b then o else None) ≡ Some act → (b ≡ true) × (o ≡ Some act)
+only_below true o act e = (refl, e)
+only_below false o act e = absurd (let z : None ≡ Some act = e in cc)
+
 module _ (M : Meaning) where
   -- a send whose answer has to come: its request waits for that, where it is below the cut
   record IsPending (s : State) (d : ListedSend) : Type 0 where
@@ -162,15 +172,15 @@ module _ (M : Meaning) where
   -- ---- settling
 
   -- a request lists this send
-  record IsListing (s : State) (d : ListedSend) : Type 0 where
-    request : Request
-    there : slice_get s.requests d.request ≡ Some request
-    low : below s.causes.cut d.request ≡ true
-    ask : d.ask ≡ length request.given
-    waits : M.status request.frame request.given ≡ Waits (ToBroker d.before d.behind d.main d.responds)
-    unlisted : is_listed s.sends d.request d.ask ≡ false
+  pub record IsListing (s : State) (d : ListedSend) : Type 0 where
+    pub request : Request
+    pub there : slice_get s.requests d.request ≡ Some request
+    pub low : below s.causes.cut d.request ≡ true
+    pub ask : d.ask ≡ length request.given
+    pub waits : M.status request.frame request.given ≡ Waits (ToBroker d.before d.behind d.main d.responds)
+    pub unlisted : is_listed s.sends d.request d.ask ≡ false
 
-  abbrev IsSendOf : List ListedSend → ℕ → Request → ListedSend → Type 0
+  abbrev pub IsSendOf : List ListedSend → ℕ → Request → ListedSend → Type 0
   IsSendOf sends k r d = (d.request ≡ k) × (d.ask ≡ length r.given) × (M.status r.frame r.given ≡ Waits (ToBroker d.before d.behind d.main d.responds)) × (is_listed sends k (length r.given) ≡ false)
 
   listing_if : (sends : List ListedSend) (k : ℕ) (r : Request) (d : ListedSend) (before behind : List ℕ) (main responds b c : Bool) → is_listed sends k (length r.given) ≡ b → M.status r.frame r.given ≡ Waits (ToBroker before behind main responds)
@@ -182,19 +192,11 @@ module _ (M : Meaning) where
       let z : new ≡ d = (let y : Some (Lists new) ≡ Some (Lists d) = e in cc) in
       subst (IsSendOf sends k r) z (refl, refl, w, is)
 
-  listing_of : (sends : List ListedSend) (k : ℕ) (free : Bool) (r : Request) (d : ListedSend) (status : Status) → M.status r.frame r.given ≡ status → act_of sends k (length r.given) free status ≡ Some (Lists d) → IsSendOf sends k r d
+  pub listing_of : (sends : List ListedSend) (k : ℕ) (free : Bool) (r : Request) (d : ListedSend) (status : Status) → M.status r.frame r.given ≡ status → act_of sends k (length r.given) free status ≡ Some (Lists d) → IsSendOf sends k r d
   listing_of sends k free r d (Fails why) w e = absurd (let z : Some (CutAt k (why k)) ≡ Some (Lists d) = e in cc)
   listing_of sends k free r d (Done response) w e = absurd (let z : None ≡ Some (Lists d) = e in cc)
   listing_of sends k free r d (Waits (Hold key)) w e = absurd (let z : None ≡ Some (Lists d) = e in cc)
   listing_of sends k free r d (Waits (ToBroker before behind main responds)) w e = listing_if sends k r d before behind main responds (is_listed sends k (length r.given)) (free || not main) refl w e
-
-  either_act : (o later : Option Act) (act : Act) → or_else o later ≡ Some act → (o ≡ Some act) ⊎ (later ≡ Some act)
-  either_act None later act e = inr e
-  either_act (Some other) later act e = inl e
-
-  only_below : (b : Bool) (o : Option Act) (act : Act) → (if b then o else None) ≡ Some act → (b ≡ true) × (o ≡ Some act)
-  only_below true o act e = (refl, e)
-  only_below false o act e = absurd (let z : None ≡ Some act = e in cc)
 
   record IsListingFrom (sends : List ListedSend) (cut : Option (ℕ × End)) (k : ℕ) (rs : List Request) (d : ListedSend) : Type 0 where
     place : ℕ
@@ -218,7 +220,7 @@ module _ (M : Meaning) where
         | inr behind ↦ one_later sends cut k r rs d (listing_from sends cut (suc k) _ rs d behind)
       ]
 
-  listing : (s : State) (d : ListedSend) → next_act M s ≡ Some (Lists d) → IsListing s d
+  pub listing : (s : State) (d : ListedSend) → next_act M s ≡ Some (Lists d) → IsListing s d
   listing s d e =
       let h = listing_from s.sends s.causes.cut 0 true s.requests d e in
       let z : 0 + h.place ≡ d.request = sym h.send.0 in

@@ -6,6 +6,7 @@ pub mod Supported
 pub mod Connections
 pub mod Lists
 pub mod Histories
+pub mod Mains
 pub mod Taken
 pub mod Bytes
 pub mod Sent

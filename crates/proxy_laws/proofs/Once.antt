@@ -58,29 +58,29 @@ hold_fate k key (x ∷ xs) is = is
 
 module _ (way : List Outside → Course) (g : Input → List Outside → Course) where
   -- a main ask of the whole is one of the way to the broker, or of what goes on from there
-  main_given : (f : Fate) (n : ℕ) (left : List Outside) → ((x : Input) → f ≡ Back x → AwaitsMain (g x left).fate → ⊥) → AwaitsMain (given_back g n left f).fate → AwaitsMain f
-  main_given (Back x) n left none is = absurd (none x refl is)
-  main_given (Awaits question) n left none is = is
-  main_given (Closes filter reason) n left none is = is
-  main_given (Endless filter) n left none is = is
+  main_given : (f : Fate) (n : ℕ) (unused : List Outside) → ((x : Input) → f ≡ Back x → AwaitsMain (g x unused).fate → ⊥) → AwaitsMain (given_back g n unused f).fate → AwaitsMain f
+  main_given (Back x) n unused none is = absurd (none x refl is)
+  main_given (Awaits question) n unused none is = is
+  main_given (Closes filter reason) n unused none is = is
+  main_given (Endless filter) n unused none is = is
 
-  pub main_gives : (xs : List Outside) → ((x : Input) → (way xs).fate ≡ Back x → AwaitsMain (g x (way xs).left).fate → ⊥) → AwaitsMain (gives g (way xs)).fate → AwaitsMain (way xs).fate
-  main_gives xs none is = main_given (way xs).fate (way xs).turns (way xs).left none is
+  pub main_gives : (xs : List Outside) → ((x : Input) → (way xs).fate ≡ Back x → AwaitsMain (g x (way xs).unused).fate → ⊥) → AwaitsMain (gives g (way xs)).fate → AwaitsMain (way xs).fate
+  main_gives xs none is = main_given (way xs).fate (way xs).turns (way xs).unused none is
 
   -- where the way has none, it is what goes on from there that asks once
   module _ (before : List Outside) (u : UsesFront way before) (x : Outside) (more : List Outside) (fit : Fit (λ ys. gives g (way ys)) (before ++ x ∷ more))
       (none : AwaitsMain (way before).fate → ⊥) where
-    same_list : before ++ x ∷ more ≡ u.used ++ ((way before).left ++ x ∷ more)
-    same_list = ap (λ l. l ++ x ∷ more) u.front ∙ append_assoc u.used (way before).left (x ∷ more)
+    same_list : before ++ x ∷ more ≡ u.used ++ ((way before).unused ++ x ∷ more)
+    same_list = ap (λ l. l ++ x ∷ more) u.front ∙ append_assoc u.used (way before).unused (x ∷ more)
 
-    further : (y : Input) → (way before).fate ≡ Back y → IsOnce (g y) → AwaitsMain (g y (way before).left).fate → AwaitsMain (gives g (way (before ++ x ∷ more))).fate → ⊥
+    further : (y : Input) → (way before).fate ≡ Back y → IsOnce (g y) → AwaitsMain (g y (way before).unused).fate → AwaitsMain (gives g (way (before ++ x ∷ more))).fate → ⊥
     further y back once first again =
-        once (way before).left x more
-        (fit_used way g before u y back ((way before).left ++ x ∷ more) (subst (Fit (λ ys. gives g (way ys))) same_list fit))
+        once (way before).unused x more
+        (fit_used way g before u y back ((way before).unused ++ x ∷ more) (subst (Fit (λ ys. gives g (way ys))) same_list fit))
         first
-        (subst (λ c. AwaitsMain (gives g c).fate) (ap way same_list ∙ back_with way g before u y back ((way before).left ++ x ∷ more)) again)
+        (subst (λ c. AwaitsMain (gives g c).fate) (ap way same_list ∙ back_with way g before u y back ((way before).unused ++ x ∷ more)) again)
 
-    once_given : (f : Fate) → (way before).fate ≡ f → ((y : Input) → f ≡ Back y → IsOnce (g y)) → AwaitsMain (given_back g (way before).turns (way before).left f).fate → AwaitsMain (gives g (way (before ++ x ∷ more))).fate → ⊥
+    once_given : (f : Fate) → (way before).fate ≡ f → ((y : Input) → f ≡ Back y → IsOnce (g y)) → AwaitsMain (given_back g (way before).turns (way before).unused f).fate → AwaitsMain (gives g (way (before ++ x ∷ more))).fate → ⊥
     once_given (Back y) is each first again = further y is (each y refl) first again
     once_given (Awaits question) is each first again = none (subst AwaitsMain (sym is) first)
     once_given (Closes filter reason) is each first again = first
@@ -98,7 +98,7 @@ no_turn nearer k turn m main inputs xs = refl
 module _ (k end most : ℕ) (inside : k < end) (turn : Turn) (lawful : IsLawful turn) (nearer : Way) (good : IsGoodWay nearer end most) (once : IsOnceWay nearer)
     (fronts : (m : Contents) (main : Bool) (xs : List Outside) → UsesFront (nearer m main) xs) (m : Contents) (main : Bool) (may : MayPass m main) where
   abbrev next : ℕ → List Input → Input → List Outside → Course
-  next n inputs x left = turns_on n nearer k turn m main (inputs ++ x ∷ []) left
+  next n inputs x unused = turns_on n nearer k turn m main (inputs ++ x ∷ []) unused
 
   passes_forward : (inputs : List Input) (message : Contents) → AreInputs turn m inputs → turn m inputs ≡ Forward message → MayPass message main
   passes_forward inputs message came is =
@@ -125,11 +125,11 @@ module _ (k end most : ℕ) (inside : k < end) (turn : Turn) (lawful : IsLawful 
       let way = nearer message false in
       let u = fronts message false xs in
       aside_fate message end (way xs).fate (good message false xs passes (fit_nearer way g xs fit)).fate
-      (main_gives way g xs (λ y back. each y (way xs).left (follows message false xs y passes (fit_nearer way g xs fit) back) (fit_left way g xs u y back fit)) asks)
+      (main_gives way g xs (λ y back. each y (way xs).unused (follows message false xs y passes (fit_nearer way g xs fit) back) (fit_left way g xs u y back fit)) asks)
   never_decided inputs came g xs (HoldFor key) is other each fit asks =
       let way = asked_outside (ask.Hold k key) as_verdict in
       hold_fate k key xs
-      (main_gives way g xs (λ y back. each y (way xs).left (follows_hold key xs y (fit_nearer way g xs fit) back) (fit_left way g xs (front_of_asked (ask.Hold k key) as_verdict xs) y back fit)) asks)
+      (main_gives way g xs (λ y back. each y (way xs).unused (follows_hold key xs y (fit_nearer way g xs fit) back) (fit_left way g xs (front_of_asked (ask.Hold k key) as_verdict xs) y back fit)) asks)
   never_decided inputs came g xs (Return response) is other each fit asks = asks
   never_decided inputs came g xs (Shut reason) is other each fit asks = asks
 
@@ -155,8 +155,8 @@ module _ (k end most : ℕ) (inside : k < end) (turn : Turn) (lawful : IsLawful 
   once_decided inputs came g (Forward message) is each never before x more fit first again =
       let passes = passes_forward inputs message came is in
       let way = nearer message main in
-      let none : (xs : List Outside) → Fit (λ ys. gives g (way ys)) xs → (y : Input) → (way xs).fate ≡ Back y → AwaitsMain (g y (way xs).left).fate → ⊥ =
-      λ xs fits y back. never tt y (way xs).left (follows message main xs y passes (fit_nearer way g xs fits) back) (fit_left way g xs (fronts message main xs) y back fits) in
+      let none : (xs : List Outside) → Fit (λ ys. gives g (way ys)) xs → (y : Input) → (way xs).fate ≡ Back y → AwaitsMain (g y (way xs).unused).fate → ⊥ =
+      λ xs fits y back. never tt y (way xs).unused (follows message main xs y passes (fit_nearer way g xs fits) back) (fit_left way g xs (fronts message main xs) y back fits) in
       once message main passes before x more (fit_nearer way g (before ++ x ∷ more) fit)
       (main_gives way g before (none before (fit_front (λ ys. gives g (way ys)) before (x ∷ more) fit)) first)
       (main_gives way g (before ++ x ∷ more) (none (before ++ x ∷ more) fit) again)

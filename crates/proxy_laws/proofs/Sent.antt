@@ -13,10 +13,11 @@ use Rattle.conn_rules.proofs.Requests as rules
 use Rattle.conn_core.specs.Chained.{chained}
 use Rattle.conn_core.proofs.Lasting.{chain_lasts}
 use Rattle.proxy_laws.specs.Awaited.{IsGivenAsAwaited, IsAwaitedSend, FramesAreBytes}
-use Rattle.proxy_laws.specs.OwnResponses.{IsOwnResponse, HasOwnResponse, AreOwnResponses, HaveOneMainSend, AreMessageSends}
+use Rattle.proxy_laws.specs.OwnResponses.{IsOwnResponse, HasOwnResponse, AreOwnResponses, AreMainSendsInOrder, AreMessageSends}
 use Rattle.proxy_laws.proofs.Connections.{done_with_own_response, sends_whole_messages, no_second_main}
 use Rattle.proxy_laws.proofs.Histories.{all_fair, all_own, all_apart, own_at}
 use Rattle.proxy_laws.proofs.Lists.{less_or_not, same_element}
+use Rattle.proxy_laws.proofs.Mains.{rising_or_again}
 use Rattle.proxy_laws.proofs.Taken.{sent_in_order}
 
 all_taken : {X : Type 0} (P : X → Type 0) (xs : List X) (n : ℕ) → All P xs → AllByRecursion P (take n xs)
@@ -98,13 +99,22 @@ module _ (chain : List Turn) (limit : ℕ) (lawful : All IsLawful chain) where
         ]
       ]
 
-  main_sends_apart : (hs : List Entry) (s : State) → IsHistory M hs s → FramesAreBytes hs → HaveOneMainSend s
+  -- a request has one main send at most
+  main_sends_apart : (hs : List Entry) (s : State) → IsHistory M hs s → FramesAreBytes hs → (n m : ℕ) (d f : ListedSend) → n < m → slice_get s.sends n ≡ Some d → slice_get s.sends m ≡ Some f → d.request ≡ f.request → d.main ≡ true → f.main ≡ true → ⊥
   main_sends_apart hs s run bytes n m d f lt a b same main again =
       let p = own_at M hs s run bytes n d a in
       let q = own_at M hs s run bytes m f b in
       let r : p.request ≡ q.request = same_element (slice_get s.requests f.request) p.request q.request (subst (λ k. slice_get s.requests k ≡ Some p.request) same p.there) q.there in
       main_apart q.request.frame p.given q.given p.since q.since d f (sym p.front ∙ ap (λ (u : Request). u.given) r ∙ q.front) (all_apart M hs s run bytes n m d f lt a b same)
       (subst (λ (u : Request). IsAwaitedSend M u.frame p.given d) r p.send) q.send main again
+
+  -- so none is of a request that had one already, and all are in the client's order
+  main_sends_in_order : (hs : List Entry) (s : State) → IsHistory M hs s → FramesAreBytes hs → AreMainSendsInOrder s
+  main_sends_in_order hs s run bytes n m d f lt a b main also =
+      elim (rising_or_again M (chain_lasts chain limit) hs s run n m d f lt a b main also) [
+        | inl less ↦ less
+        | inr had ↦ absurd (main_sends_apart hs s run bytes had.place m had.send f had.before had.there b had.of_it had.main also)
+      ]
 
   pub message_sends : (hs : List Entry) (s : State) → IsHistory M hs s → FramesAreBytes hs → AreMessageSends chain hs s
   message_sends hs s run bytes =
@@ -113,5 +123,5 @@ module _ (chain : List Turn) (limit : ℕ) (lawful : All IsLawful chain) where
         own = λ k d lt.
             let own = all_own M hs s run bytes k d lt in
             (own.request, own.there, sends_whole_messages chain limit lawful own.request.frame own.given (get_or s.sends k d) own.send);
-        one_main_send = main_sends_apart hs s run bytes;
+        in_order = main_sends_in_order hs s run bytes;
       }

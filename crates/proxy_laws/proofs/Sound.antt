@@ -154,9 +154,9 @@ turns_in (suc (suc n)) most = 1 + (most + turns_in (suc n) most)
 module _ (m : Contents) (main : Bool) (end rest : ℕ) (g : Input → List Outside → Course) (D : Decision)
     (each : (x : Input) (ys : List Outside) → MayFollow D x → Fit (g x) ys → IsGood m main end rest (g x ys)) where
   good_given : (way : List Outside → Course) (most : ℕ) (xs : List Outside) (u : UsesFront way xs) → (way xs).turns ≤ most → Fit (λ ys. gives g (way ys)) xs
-      → (f : Fate) → (way xs).fate ≡ f → IsInner m main end D f → IsGood m main end (most + rest) (given_back g (way xs).turns (way xs).left f)
+      → (f : Fate) → (way xs).fate ≡ f → IsInner m main end D f → IsGood m main end (most + rest) (given_back g (way xs).turns (way xs).unused f)
   good_given way most xs u few fit (Back x) is inner =
-      let r = each x (way xs).left inner (fit_left way g xs u x is fit) in
+      let r = each x (way xs).unused inner (fit_left way g xs u x is fit) in
       record { fate = r.fate; few = omega (arith, few, r.few) }
   good_given way most xs u few fit (Awaits question) is inner = record { fate = inner; few = omega (arith, few) }
   good_given way most xs u few fit (Closes filter reason) is inner = record { fate = inner; few = omega (arith, few) }
@@ -184,7 +184,7 @@ one_turn_more m main end most c h = record { fate = h.fate; few = omega (arith, 
 module _ (k end most : ℕ) (inside : k < end) (turn : Turn) (lawful : IsLawful turn) (nearer : Way) (good : IsGoodWay nearer end most)
     (fronts : (m : Contents) (main : Bool) (xs : List Outside) → UsesFront (nearer m main) xs) (m : Contents) (main : Bool) (may : MayPass m main) where
   abbrev next : ℕ → List Input → Input → List Outside → Course
-  next n inputs x left = turns_on n nearer k turn m main (inputs ++ x ∷ []) left
+  next n inputs x unused = turns_on n nearer k turn m main (inputs ++ x ∷ []) unused
 
   good_decided : (inputs : List Input) (came : AreInputs turn m inputs) (rest : ℕ) (g : Input → List Outside → Course) (xs : List Outside) (D : Decision) → turn m inputs ≡ D
       → ((x : Input) (ys : List Outside) → MayFollow D x → Fit (g x) ys → IsGood m main end rest (g x ys))

@@ -15,7 +15,8 @@ use Rattle.filter_chain.specs.Outcomes.{NeverEnds}
 use Rattle.conn_rules.specs.Meaning.{Meaning, Done}
 use Rattle.conn_rules.specs.State.{Outside, Request, ListedSend, State, upstream_frame}
 use Rattle.conn_rules.specs.History.{Entry, response_bytes, out, sent, frames_taken, AreFirst}
-use Rattle.conn_core.specs.Requests.{client_id_spelled, request_of, is_silent, is_told_versions, versions_told}
+use Rattle.framing.specs.Heads.{client_id_spelled}
+use Rattle.conn_core.specs.Requests.{request_of, is_silent, is_told_versions, versions_told}
 use Rattle.conn_core.specs.Chained.{chained, chain_outcome}
 use Rattle.proxy_laws.specs.Awaited.{IsGivenAsAwaited, IsAwaitedSend}
 use Rattle.proxy_laws.specs.LawfulChains.{IsNeedOf}
@@ -59,20 +60,21 @@ abbrev pub AllComeToAnEnd : List Turn → ℕ → Type 0
 AllComeToAnEnd chain limit =
     (r : Request) (filter : ℕ) → IsGivenAsAwaited (chained chain limit) r → is_told_versions r.frame ≡ false → chain_outcome chain r.frame r.given ≢ NeverEnds filter
 
--- a request goes to the broker itself once at most: it has one main send
-abbrev pub HaveOneMainSend : State → Type 0
-HaveOneMainSend s =
-    (n m : ℕ) (d f : ListedSend) → n < m → slice_get s.sends n ≡ Some d → slice_get s.sends m ≡ Some f → d.request ≡ f.request → d.main ≡ true → f.main ≡ true → ⊥
+-- Main sends are in the client's order: each is of a later request than those before it. So a request has one at most.
+abbrev pub AreMainSendsInOrder : State → Type 0
+AreMainSendsInOrder s =
+    (n m : ℕ) (d f : ListedSend) → n < m → slice_get s.sends n ≡ Some d → slice_get s.sends m ≡ Some f → d.main ≡ true → f.main ≡ true → d.request < f.request
 
 -- the frames of these sends as they go to the broker, the first of them with number j
 abbrev pub upstream_bytes : ℕ → List ListedSend → List ℕ
 upstream_bytes j [] = []
 upstream_bytes j (d ∷ ds) = upstream_frame j d ++ upstream_bytes (suc j) ds
 
--- What the broker was sent: the first of the sends, one after another under their upstream ids. Each send is a message for its request.
+-- What the broker was sent: the first of the sends, one after another under their upstream ids. The main ones are in the client's order.
+-- Each send is a message for its request.
 pub record AreMessageSends (chain : List Turn) (hs : List Entry) (s : State) : Type 0 where
   pub sent_is : sent hs ≡ upstream_bytes 0 (take s.taken s.sends)
-  pub one_main_send : HaveOneMainSend s
+  pub in_order : AreMainSendsInOrder s
   pub own : All (λ d. (r : Request) × (slice_get s.requests d.request ≡ Some r) × IsMessageSend chain r.frame d) s.sends
 
 -- What the client was sent: for the first of the frames that were taken from it, one after another, its own response.

@@ -38,8 +38,8 @@ pub fn history_laws()
     // These are what the requests mean under the chain, with all that they were given.
     ensures own_meanings { (chain : List Turn) (limit : ℕ) (hs : List Entry) (s : State) → All IsLawful chain → IsHistory (chained chain limit) hs s → FramesAreBytes hs
         → All (HasOwnResponse (chained chain limit)) (take s.passed s.requests) }
-    // The broker is sent the sends in order. Each is a whole message of a supported API and version, and a request itself is sent
-    // once at most.
+    // The broker is sent the sends in order. Each is a whole message of a supported API and version. The requests themselves are
+    // sent in the client's order, and each once at most.
     ensures message_sends { (chain : List Turn) (limit : ℕ) (hs : List Entry) (s : State) → All IsLawful chain → IsHistory (chained chain limit) hs s → FramesAreBytes hs → AreMessageSends chain hs s }
 {}
 

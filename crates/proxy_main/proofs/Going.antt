@@ -188,7 +188,7 @@ module _ {C : Type 0} (meaning : C → Meaning) (stands : C → State → Type 0
           read = k.read ++ take count k.rest;
           rest = drop count k.rest;
           parts = k.parts ∙ ap (λ xs. k.read ++ xs) (sym (take-append-drop count k.rest)) ∙ sym (append_assoc k.read (take count k.rest) (drop count k.rest));
-          left_is = gives.rest_is;
+          unread_is = gives.rest_is;
           allowed_is = omega (arith, length-append k.read (take count k.rest), n, e, le);
           running = subst (λ xs. HasWritten meaning stands M new first after (k.read ++ xs)) same (takes M first k.read (flush_goes meaning stands old flushed before written f M first k.read k.running));
         },
@@ -202,7 +202,7 @@ module _ {C : Type 0} (meaning : C → Meaning) (stands : C → State → Type 0
       let e : length k.read + allowed ≡ script_limit = k.allowed_is in
       let n : length (take m k.rest) ≤ m = taken_length m k.rest in
       stops_end M most script (k.read ++ take m k.rest) (drop m k.rest) new left first after why
-      (record { before = k.read; piece = take count k.rest; rest = drop count k.rest; parts = k.parts ∙ ap (λ xs. k.read ++ xs) (sym (take-append-drop count k.rest)); left_is = gives.rest_is; within = read_within; short = omega (arith, taken_length count k.rest, short) })
+      (record { before = k.read; piece = take count k.rest; rest = drop count k.rest; parts = k.parts ∙ ap (λ xs. k.read ++ xs) (sym (take-append-drop count k.rest)); unread_is = gives.rest_is; within = read_within; short = omega (arith, taken_length count k.rest, short) })
       (k.parts ∙ ap (λ xs. k.read ++ xs) (sym (take-append-drop m k.rest)) ∙ sym (append_assoc k.read (take m k.rest) (drop m k.rest)))
       (omega (arith, length-append k.read (take m k.rest), n, e, le))
       (subst (λ xs. StopsReading M k.read (k.read ++ xs) new first after why) same (stops M first k.read (flush_goes meaning stands old flushed before written f M first k.read k.running)))
@@ -242,7 +242,7 @@ module _ {C : Type 0} (meaning : C → Meaning) (stands : C → State → Type 0
         lines = with_last f.ended f.last;
         script_is = whole_script script f.ended f.last script_within (subst (λ xs. Lines xs f.ended f.last) (sym all_read) f.cut);
         within = script_within;
-        all = k.left_is ∙ ap Some none;
+        all = k.unread_is ∙ ap Some none;
         waiting = record {
           text = r.text ++ f.more;
           written = r.written;
@@ -260,7 +260,7 @@ module _ {C : Type 0} (meaning : C → Meaning) (stands : C → State → Type 0
         lines = f.ended;
         bad = f.last;
         others = [];
-        so_far = record { before = script; piece = []; rest = []; parts = sym (append_nil script); left_is = k.left_is ∙ ap Some none; within = script_within; short = omega arith };
+        so_far = record { before = script; piece = []; rest = []; parts = sym (append_nil script); unread_is = k.unread_is ∙ ap Some none; within = script_within; short = omega arith };
         not_ended = omega (arith, ap length all_read, ap length f.cut.whole, length-append (as_text f.ended) f.last);
         script_is = subst (Script script) f.bad (whole_script script f.ended f.last script_within (subst (λ xs. Lines xs f.ended f.last) (sym all_read) f.cut));
         is_bad = f.is_bad;

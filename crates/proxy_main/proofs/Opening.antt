@@ -31,6 +31,7 @@ answered_none M =
       client = stream_fresh peer.Client;
       broker = stream_fresh peer.Broker;
       shown = refl;
+      told = λ why over. cc;
       in_order = record { sent_is = refl; passed_there = omega arith; answered = All-nil (IsAnswered M) };
       own_requests = λ frames tail cut. (frames, refl);
     }

@@ -13,6 +13,7 @@ use Rattle.conn_rules.specs.Meaning.{Meaning, Lasting}
 use Rattle.conn_rules.specs.History.{Entry, LeadsTo, IsHistory, to_client, out, frames_taken, client_frames, AreFirst}
 use Rattle.conn_rules.proofs.Brings.{leads_then}
 use Rattle.conn_rules.proofs.Order.{order}
+use Rattle.conn_rules.proofs.Told.{end_next}
 use Rattle.conn_rules.proofs.Requests.{requests, first_frames}
 use Rattle.session.specs.declared.peer.Peer.{Peer}
 use Rattle.session.specs.declared.peer.Peer.TheVariants as peer
@@ -355,6 +356,7 @@ answered_more M lines text t l a hs q before lasting text_of is leads =
         broker = all.broker [] [] (stream_fresh peer.Broker);
         shown = all.shown;
         in_order = order M (before.history ++ hs) q.state lasting all.leads;
+        told = λ why over. end_next M (before.history ++ hs) q.state why all.leads over;
         own_requests = own_requests M (before.history ++ hs) q (stream_in peer.Client (before.script ++ l ∷ [])) all.both.client all.leads client;
       };
       last_is = refl;

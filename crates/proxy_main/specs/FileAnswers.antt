@@ -62,10 +62,7 @@ pub record WritesFrontOfAnswer (asked : Asked) (content : Content) (before after
 abbrev pub AnswersFile : Asked → Content → Option (List ℕ) → Option (List ℕ) → Status → Type 0
 AnswersFile asked content before after status.Done = (text : List ℕ) × WritesAnswer asked content before after (answer.Holds text)
 AnswersFile asked content before after status.Refused = (text : List ℕ) × WritesAnswer asked content before after (answer.Refused text)
-AnswersFile asked content before after status.Usage = ⊥
-AnswersFile asked content before after status.InputFault = ⊥
 AnswersFile asked content before after status.OutputFault = WritesFrontOfAnswer asked content before after
 AnswersFile asked content before after status.NoMemory = after ≡ before
 AnswersFile asked content before after status.FilesFault = after ≡ before
-AnswersFile asked content before after status.BindFault = ⊥
-AnswersFile asked content before after status.ThreadFault = ⊥
+AnswersFile asked content before after _ = ⊥

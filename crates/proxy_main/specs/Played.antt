@@ -59,9 +59,7 @@ answer_of (reply.Pick None) = Some answer.Nothing
 answer_of (reply.Complete (Ok _)) = Some answer.Fine
 answer_of (reply.Complete (Err e)) = complete_answer e
 answer_of reply.Noted = Some answer.Fine
-answer_of (reply.Take _) = None
-answer_of (reply.Answer _) = None
-answer_of (reply.Look _) = None
+answer_of _ = None
 
 -- A piece of a stream, or its end.
 pub record IsPieceLine (before : Stream) (piece : List ℕ) (a : Answer) (hs : List Entry) (after : Stream) : Type 0 where
@@ -119,37 +117,13 @@ ArePlayed M p (l ∷ ls) (a ∷ answers) hs q =
 -- All bytes of a peer's stream that the lines bring, up to its end.
 abbrev pub piece_of : Line → Peer → List ℕ
 piece_of (line.Client piece) peer.Client = piece
-piece_of (line.Broker piece) peer.Client = []
-piece_of (line.Client piece) peer.Broker = []
 piece_of (line.Broker piece) peer.Broker = piece
-piece_of line.ClientEnd p = []
-piece_of line.BrokerEnd p = []
-piece_of line.Send p = []
-piece_of line.Emit p = []
-piece_of line.Pick p = []
-piece_of (line.Done k i verdict) p = []
-piece_of line.FaultClientRead p = []
-piece_of line.FaultClientWrite p = []
-piece_of line.FaultBrokerRead p = []
-piece_of line.FaultBrokerWrite p = []
-piece_of (line.FaultAuthority k) p = []
+piece_of _ _ = []
 
 abbrev pub is_end_of : Line → Peer → Bool
 is_end_of line.ClientEnd peer.Client = true
-is_end_of line.BrokerEnd peer.Client = false
-is_end_of line.ClientEnd peer.Broker = false
 is_end_of line.BrokerEnd peer.Broker = true
-is_end_of (line.Client piece) p = false
-is_end_of (line.Broker piece) p = false
-is_end_of line.Send p = false
-is_end_of line.Emit p = false
-is_end_of line.Pick p = false
-is_end_of (line.Done k i verdict) p = false
-is_end_of line.FaultClientRead p = false
-is_end_of line.FaultClientWrite p = false
-is_end_of line.FaultBrokerRead p = false
-is_end_of line.FaultBrokerWrite p = false
-is_end_of (line.FaultAuthority k) p = false
+is_end_of _ _ = false
 
 abbrev pub stream_in : Peer → List Line → List ℕ
 stream_in p [] = []
@@ -162,12 +136,4 @@ printed answers = flat_map (λ a. answer_text a ++ 10 ∷ []) answers
 -- the bytes that an answer shows the client
 abbrev pub shown_to_client : Answer → List ℕ
 shown_to_client (answer.ToClient response) = response
-shown_to_client answer.Fine = []
-shown_to_client answer.Full = []
-shown_to_client answer.Closed = []
-shown_to_client answer.NotWaiting = []
-shown_to_client (answer.ToBroker frame) = []
-shown_to_client answer.Nothing = []
-shown_to_client answer.Later = []
-shown_to_client (answer.Over why) = []
-shown_to_client (answer.Ticket k i key) = []
+shown_to_client _ = []

@@ -29,7 +29,7 @@ module _ {C : Type 0} (meaning : C → Meaning) (stands : C → State → Type 0
     pub is_at : IsAt M x.station answered.last
     pub count : x.lines ≡ length lines
 
-  -- so were the lines that end in what was read, and the rest of it is kept, as much as tells how long a line is
+  -- All lines that end in what was read were answered. The rest is kept, up to one byte past a line's limit.
   pub record HasRead (M : Meaning) (x : Replay C) (read text : List ℕ) : Type 0 where
     pub ended : List (List ℕ)
     pub last : List ℕ

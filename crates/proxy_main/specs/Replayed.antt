@@ -2,6 +2,8 @@
 use Rattle.std.specs.Prelude.{◌≡◌, ℕ, ◌+◌, ◌<◌, ◌≤◌, List, [], ◌∷◌, ◌++◌, flat_map, map, length, Option, Some, ◌⊎◌}
 use Rattle.conn_rules.specs.History.{Entry, IsHistory, out, IsInOrder, AreFirst}
 use Rattle.conn_rules.specs.Meaning.{Meaning}
+use Rattle.conn_rules.specs.Told.{IsEndNext}
+use Rattle.kp_edge.specs.declared.end.End.{End}
 use Rattle.framing.specs.Cuts.{Cuts}
 use Rattle.session.specs.declared.peer.Peer.TheVariants as peer
 use Rattle.session.specs.Streams.{IsStreamOf}
@@ -21,7 +23,8 @@ AreFirstOfStream requests bytes =
     (frames : List (List ℕ)) (tail : List ℕ) → Cuts (least_size peer.Client) (most_size peer.Client) bytes frames tail → AreFirst requests frames
 
 -- These lines were answered, and this is the text. The frames that were handed on are the first of each peer's stream.
--- What the client was sent is the responses to its passed requests, in order, each under its own correlation id.
+-- What the client was sent is the responses to its passed requests, in order, each under its own correlation id. The end
+-- that was told comes next behind them.
 pub record Answered (M : Meaning) (lines : List (List ℕ)) (text : List ℕ) : Type 0 where
   pub script : List Line
   pub answers : List Answer
@@ -35,6 +38,7 @@ pub record Answered (M : Meaning) (lines : List (List ℕ)) (text : List ℕ) : 
   pub broker : IsStreamOf (stream_in peer.Broker script) history last.broker
   pub shown : flat_map shown_to_client answers ≡ out history
   pub in_order : IsInOrder M history last.state
+  pub told : (why : End) → last.state.causes.over ≡ Some why → IsEndNext M why last.state
   pub own_requests : AreFirstOfStream (map (λ r. r.frame) last.state.requests) (stream_in peer.Client script)
 
 -- the script as a whole was answered
@@ -44,15 +48,15 @@ pub record Whole (M : Meaning) (script text : List ℕ) : Type 0 where
   pub within : length script ≤ script_limit
   pub answered : Answered M lines text
 
--- the lines of a front of it were
+-- the lines of a front of the script were answered
 pub record Front (M : Meaning) (script text : List ℕ) : Type 0 where
   pub lines : List (List ℕ)
   pub others : List (List ℕ)
   pub script_is : Script script (lines ++ others)
   pub answered : Answered M lines text
 
--- The lines before the first that is no line were, and it is named by its number. Nothing was read after the
--- piece in which it ended.
+-- The lines before the first bad one were answered, and it is named by its number. Nothing was read after
+-- the piece in which it ended.
 pub record BadLine (M : Meaning) (script : List ℕ) (left : Option (List ℕ)) (text : List ℕ) : Type 0 where
   pub lines : List (List ℕ)
   pub bad : List ℕ
@@ -65,7 +69,7 @@ pub record BadLine (M : Meaning) (script : List ℕ) (left : Option (List ℕ)) 
   pub answered : Answered M lines answers
   pub text_is : text ≡ answers ++ bad_line_text (length lines + 1)
 
--- the lines that end within the limit were, and the script is longer
+-- the lines that end within the limit were answered, and the script is longer
 pub record TooLong (M : Meaning) (script text : List ℕ) : Type 0 where
   pub lines : List (List ℕ)
   pub script_is : Script script lines
@@ -89,25 +93,18 @@ pub record CutShort (M : Meaning) (script : List ℕ) (left : Option (List ℕ))
 abbrev pub Replays : Meaning → List ℕ → Option (List ℕ) → List ℕ → Status → Type 0
 Replays M script left written status.Done = Whole M script written
 Replays M script left written status.Refused = BadLine M script left written ⊎ TooLong M script written
-Replays M script left written status.Usage = ⊥
 Replays M script left written status.InputFault = Front M script written
 Replays M script left written status.OutputFault = CutShort M script left written
 Replays M script left written status.NoMemory = Front M script written
-Replays M script left written status.FilesFault = ⊥
-Replays M script left written status.BindFault = ⊥
-Replays M script left written status.ThreadFault = ⊥
+Replays _ script left written _ = ⊥
 
 -- the statuses that replay ends with
 abbrev pub IsStatusOfReplay : Status → Type 0
-IsStatusOfReplay status.Done = Unit {0}
-IsStatusOfReplay status.Refused = Unit {0}
 IsStatusOfReplay status.Usage = ⊥
-IsStatusOfReplay status.InputFault = Unit {0}
-IsStatusOfReplay status.OutputFault = Unit {0}
-IsStatusOfReplay status.NoMemory = Unit {0}
 IsStatusOfReplay status.FilesFault = ⊥
 IsStatusOfReplay status.BindFault = ⊥
 IsStatusOfReplay status.ThreadFault = ⊥
+IsStatusOfReplay _ = Unit {0}
 
 -- A script on an input was replayed. Where the input tells what is to come and the output what it took, what was written
 -- has its cause in the script. At most the limit of a script and one piece of it were read, and all of it at status 0.
@@ -121,10 +118,4 @@ pub record ReplaysInput (M : Meaning) (coming left before after : Option (List �
 abbrev pub RefusesWords : Status → Option (List ℕ) → Option (List ℕ) → Type 0
 RefusesWords status.Usage before after = Appends before usage after
 RefusesWords status.OutputFault before after = AppendsFront before usage after
-RefusesWords status.Done before after = ⊥
-RefusesWords status.Refused before after = ⊥
-RefusesWords status.InputFault before after = ⊥
-RefusesWords status.NoMemory before after = ⊥
-RefusesWords status.FilesFault before after = ⊥
-RefusesWords status.BindFault before after = ⊥
-RefusesWords status.ThreadFault before after = ⊥
+RefusesWords _ before after = ⊥

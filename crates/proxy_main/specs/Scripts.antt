@@ -46,7 +46,7 @@ pub record ReadSoFar (most : ℕ) (script : List ℕ) (left : Option (List ℕ))
   pub piece : List ℕ
   pub rest : List ℕ
   pub parts : script ≡ before ++ (piece ++ rest)
-  pub left_is : left ≡ Some rest
+  pub unread_is : left ≡ Some rest
   pub within : length before ≤ script_limit
   pub short : length piece ≤ most
 

@@ -28,7 +28,7 @@ pub record Flushes {C : Type 0} (old : Replay C) (before : Option (List ℕ)) (n
   pub lines : new.lines ≡ old.lines
   pub appends : Appends before old.answers after
 
--- why the script was refused was put behind the answers, or memory ran out
+-- the refusal was put behind the answers, or memory ran out
 abbrev pub Refuses : List ℕ → List ℕ → List ℕ → Status → Type 0
 Refuses old why new s = ((s ≡ status.Refused) × (new ≡ old ++ why)) ⊎ ((s ≡ status.NoMemory) × (new ≡ old))
 
@@ -36,7 +36,7 @@ Refuses old why new s = ((s ≡ status.Refused) × (new ≡ old ++ why)) ⊎ ((s
 abbrev pub WritesOut : List ℕ → Status → Option (List ℕ) → Option (List ℕ) → Status → Type 0
 WritesOut waits s before after result = ((result ≡ s) × Appends before waits after) ⊎ ((result ≡ status.OutputFault) × AppendsFront before waits after)
 
--- Why it stopped in what was seen so far: a line is no line that had not ended in what was known before, a
+-- Why it stopped in what was seen so far: a line that ends in the new bytes is outside the grammar, a
 -- write failed, or memory ran out. The lines before were answered.
 pub record StopsAtLine {C : Type 0} (M : Meaning) (known seen : List ℕ) (x : Replay C) (before after : Option (List ℕ)) : Type 0 where
   pub lines : List (List ℕ)
@@ -110,13 +110,13 @@ pub record OneRead (most : ℕ) (coming : List ℕ) (left : Option (List ℕ)) (
   pub taken : ℕ
   pub within : taken ≤ length coming
   pub short : taken ≤ most
-  pub left_is : left ≡ Some (drop taken coming)
+  pub unread_is : left ≡ Some (drop taken coming)
   pub told : IfOk result (λ count. count ≡ taken)
 
 abbrev pub ReadsOnce : ℕ → Option (List ℕ) → Option (List ℕ) → Result ℕ Stop → Type 0
 ReadsOnce most before left result = (coming : List ℕ) → before ≡ Some coming → OneRead most coming left result
 
--- what all in all was written
+-- all that was written
 pub record Concluded (M : Meaning) (script : List ℕ) (left first after : Option (List ℕ)) (s : Status) : Type 0 where
   pub written : List ℕ
   pub appends : Appends first written after
@@ -134,7 +134,7 @@ module _ {C : Type 0} (meaning : C → Meaning) (stands : C → State → Type 0
     pub parts : text ≡ written ++ x.answers
     pub appends : Appends before written after
 
-  -- they were, or still wait
+  -- the answers that waited were written, or wait still
   abbrev pub WaitsOrWritten : Replay C → Option (List ℕ) → Replay C → Option (List ℕ) → Type 0
   WaitsOrWritten old now new after = (M : Meaning) (first : Option (List ℕ)) (read : List ℕ) → HasWritten M old first now read → HasWritten M new first after read
 
@@ -153,7 +153,7 @@ module _ {C : Type 0} (meaning : C → Meaning) (stands : C → State → Type 0
     pub read : List ℕ
     pub rest : List ℕ
     pub parts : script ≡ read ++ rest
-    pub left_is : left ≡ Some rest
+    pub unread_is : left ≡ Some rest
     pub allowed_is : length read + allowed ≡ script_limit
     pub running : HasWritten M x before after read
 

@@ -54,7 +54,7 @@ pub(crate) fn replay_cluster<I: Source, O: Sink, F: Files>(
     }
 }
 
-// What the file has of the cluster. One byte past the limit of a configuration tells as much of it as all of it.
+// What the file has of the cluster. One byte past the limit of a configuration is as good as the whole file.
 fn cluster_in<F: Files>(
     alloc: Global,
     file: &[u8],

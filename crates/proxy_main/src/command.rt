@@ -21,8 +21,8 @@ const USAGE: &[u8] =
     b"usage: kproxy replay [CONFIG CLUSTER] | check CONFIG | plan CONFIG | serve CONFIG | broker HOST PORT | load SEED N\n";
 
 /// Does what the words say, and ends with the status that says how. The word `replay` runs the script on `input`
-/// over a connection and writes an answer line for each line. What a script means is told in docs/SCRIPTS.md. Before the
-/// names of a file and a cluster it runs the script over that cluster of the configuration, and else over the default
+/// over a connection and writes an answer line for each line. What a script means is told in docs/SCRIPTS.md. With the
+/// names of a file and a cluster behind it, `replay` runs the script over that cluster, and else over the default
 /// plan. `check` and `plan`, each before the name of a file, write what is told of a configuration in docs/CONFIG.md.
 /// It waits for nothing but its input, its output and the read of that file.
 pub fn run_command<I: Source, O: Sink, F: Files, L>(

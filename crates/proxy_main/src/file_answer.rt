@@ -10,7 +10,7 @@ use config_answers::{Asked, CONFIG_LIMIT, ConfigAnswer, config_answer, front_law
 use kp_edge::{Failed, FileFault, Files, Sink};
 use std::alloc::Global;
 
-// What is asked of the file of which name.
+// What is asked, and the name of the file.
 #[derive(Clone, Copy)]
 pub(crate) struct FileCommand<'a> {
     pub(crate) asked: Asked,

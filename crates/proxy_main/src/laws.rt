@@ -1,21 +1,29 @@
 //! What follows of what `replay` writes.
 
-ghost use Rattle.std.specs.Prelude.{List, ℕ};
+ghost use Rattle.std.specs.Prelude.{◌≡◌, List, ℕ, length, Some, IsTrue};
+ghost use Rattle.kp_edge.specs.declared.end.End.{End};
 ghost use Rattle.virtual_cluster.specs.declared.plan.ClusterPlan.{ClusterPlan};
 ghost use Rattle.virtual_cluster.specs.Limits.{IsValid};
 ghost use Rattle.any_filter.specs.Chains.{cluster_chain};
+ghost use Rattle.conn_rules.specs.Told.{is_client_stream_end};
 ghost use Rattle.proxy_laws.specs.OwnResponses.{AreOwnResponses, AreMessageSends};
 ghost use Rattle.proxy_main.specs.DefaultPlan.{cluster_meaning};
 ghost use Rattle.proxy_main.specs.Replayed.{Answered};
 
 use address_rewrite::addresses_law;
+use conn_core::own_ends_law;
+use conn_rules::told_law;
 
-/// Of every script whose lines were answered under a valid plan, as `run_command` promises.
+/// What follows for every script whose lines were answered under a valid plan.
 pub fn replay_laws()
     // The client was shown, for the first of its frames, one after another, its own response.
     ensures own_responses { (plan : ClusterPlan) → IsValid plan → (lines : List (List ℕ)) (text : List ℕ) (a : Answered (cluster_meaning plan) lines text) → AreOwnResponses a.history }
-    // The broker was sent whole messages of supported APIs and versions, and a request itself once at most.
+    // The broker was sent whole messages of supported APIs and versions, and each request itself once at most, in the client's order.
     ensures message_sends { (plan : ClusterPlan) → IsValid plan → (lines : List (List ℕ)) (text : List ℕ) (a : Answered (cluster_meaning plan) lines text) → AreMessageSends (cluster_chain plan) a.history a.last.state }
+    // Where an end of the client's stream was told, all requests are passed: each has had its response.
+    ensures all_passed { (plan : ClusterPlan) (lines : List (List ℕ)) (text : List ℕ) (a : Answered (cluster_meaning plan) lines text) (why : End) → a.last.state.causes.over ≡ Some why → IsTrue (is_client_stream_end why) → a.last.state.passed ≡ length a.last.state.requests }
 {
     addresses_law();
+    told_law();
+    own_ends_law();
 }

@@ -428,10 +428,10 @@ fn many_lines(rt: HostRuntime) -> Result<(), Fail> {
             text.push_str("none\n")?;
         }
         let (status, found) = ran(rt.alloc(), &["replay"], script.as_str(), piece, &NONE)?;
-        assert!(rt;
-            found.as_str() == text.as_str(),
-            "{lines} lines in pieces of {piece}"
-        );
+        if found.as_str() != text.as_str() {
+            let line = first_line(rt.alloc(), text.as_str(), found.as_str())?;
+            assert!(rt; false, "{lines} lines in pieces of {piece}: {line}");
+        }
         assert_eq!(rt; status, Status::Done, "{lines} lines in pieces of {piece}");
     }
     Ok(())

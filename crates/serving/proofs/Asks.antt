@@ -18,7 +18,7 @@ use Rattle.serving.specs.declared.progress.Progress.{Progress}
 use Rattle.serving.specs.declared.progress.Progress.TheVariants as progress
 use Rattle.serving.specs.declared.slot.Slot.{Slot}
 use Rattle.serving.specs.declared.slot.Stage.TheVariants as stage
-use Rattle.serving.specs.Services.{awaits_answer_to, IsProgress, CountsOn}
+use Rattle.serving.specs.Services.{behind_id, awaits_answer_to, IsProgress, CountsOn}
 use Rattle.serving.specs.Slots.{stage_of, awaits_response, awaits_verdict, lists_at, has_main, is_picked, pending, one_if, IsStage, GoesOn, Keeps}
 use Rattle.serving.specs.Listing.{send_of, SameFor, OnlyAt, ListsSlot, CountsNext, IsSweptTo, SettlesOn, GoesTo}
 use Rattle.std.proofs.lemmas.Option.{slice_get_within}
@@ -206,7 +206,7 @@ module _ {R : Type 0} (M : Meaning) (runs : R → List ℕ → List Outside → 
     advance_waiting responds is none =
         let goes : acted (Some (Lists d)) s ≡ one_listed d s = ap (λ b. if b then one_listed d s else give d.request NoResponse (one_listed d s)) responds in
         let only : OnlyAt k s (one_listed d s) = record { others = same_listed; count = refl; passed = refl; held_is = refl; halt = refl; over = refl; behind = λ n le x. x } in
-        let status : N.status r.frame r.given ≡ Waits (ToBroker m.before m.behind m.main true) = asked.0 ∙ ap (λ b. Waits (ToBroker m.before m.behind m.main b)) responds in
+        let status : N.status r.frame r.given ≡ Waits (ToBroker m.before (behind_id m) m.main true) = asked.0 ∙ ap (λ b. Waits (ToBroker m.before (behind_id m) m.main b)) responds in
         let kept : Keeps N runs (one_listed d s) k (record old { main_listed = old.main_listed || m.main; stage = stage.Listed step.run }) = record {
           request = r;
           there = h.kept.there;
@@ -214,7 +214,7 @@ module _ {R : Type 0} (M : Meaning) (runs : R → List ℕ → List Outside → 
           silent = h.kept.silent;
           given = h.kept.given;
           main = sym main_now;
-          stage = (m.before, m.behind, m.main, status, asked.1);
+          stage = (m.before, behind_id m, m.main, status, asked.1);
           listed = λ i le. listed_now i le;
           picked = λ i le. unpicked i le;
           pending = λ x. omega (arith, owed_now k, unowed, one_owed (not m.responds) (k == k) (not_is m.responds responds) (eqb_same k));

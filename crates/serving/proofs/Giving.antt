@@ -30,7 +30,7 @@ module _ {R : Type 0} (M : Meaning) (runs : R → List ℕ → List Outside → 
   run_stands frame given (stage.Picked x) run h is = let e : x ≡ run = cc in subst (λ y. runs y frame given) e h.2
   run_stands frame given (stage.Ready response) run h is = cc
   run_stands frame given (stage.Failed cause) run h is = cc
-  run_stands frame given stage.Running run h is = absurd h
+  run_stands frame given stage.AtWork run h is = absurd h
 
 not_asked : (b : Bool) (i n : ℕ) → suc n ≤ i → (b && (i == n)) ≡ false
 not_asked true i n le = ne_eqb i n (λ e. omega (arith, le, e))

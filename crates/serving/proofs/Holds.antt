@@ -41,7 +41,7 @@ module _ {R : Type 0} (M : Meaning) (runs : R → List ℕ → List Outside → 
   hold_by frame given n (stage.Ready None) h is = ap (λ x. number_of (hold_of (length given) x)) (sym h.1)
   hold_by frame given n (stage.Ready (Some response)) h is = ap (λ x. number_of (hold_of (length given) x)) (sym h.1)
   hold_by frame given n (stage.Failed cause) h is = ap (λ x. number_of (hold_of (length given) x)) (sym h)
-  hold_by frame given n stage.Running h is = absurd h
+  hold_by frame given n stage.AtWork h is = absurd h
 
   module _ (f : Flight R) (s : State) (h : Carries M runs f s) (k : ℕ) where
     above : (found : Option Request) → below s.causes.cut k ≡ false → number_of (hold_in M s.causes.cut k found) ≡ None

@@ -94,7 +94,7 @@ module _ {R : Type 0} (M : Meaning) (runs : R → List ℕ → List Outside → 
   done_is frame given (stage.Ready None) h is = ([], h.1)
   done_is frame given (stage.Ready (Some response)) h is = (response.bytes, h.1)
   done_is frame given (stage.Failed cause) h is = cc
-  done_is frame given stage.Running h is = cc
+  done_is frame given stage.AtWork h is = cc
 
   ready_is : (frame : List ℕ) (given : List Outside) (at : Stage R) → IsStage M runs frame given at → is_some (response_of (M.status frame given)) ≡ is_ready at
   ready_is frame given (stage.Unlisted m run) h = ap (λ x. is_some (response_of x)) h.0
@@ -104,7 +104,7 @@ module _ {R : Type 0} (M : Meaning) (runs : R → List ℕ → List Outside → 
   ready_is frame given (stage.Ready None) h = ap (λ x. is_some (response_of x)) h.1
   ready_is frame given (stage.Ready (Some response)) h = ap (λ x. is_some (response_of x)) h.1
   ready_is frame given (stage.Failed cause) h = ap (λ x. is_some (response_of x)) h
-  ready_is frame given stage.Running h = absurd h
+  ready_is frame given stage.AtWork h = absurd h
 
   ready_unawaited : (at : Stage R) → is_ready at ≡ true → awaits_response at ≡ false
   ready_unawaited (stage.Unlisted m run) is = cc
@@ -113,7 +113,7 @@ module _ {R : Type 0} (M : Meaning) (runs : R → List ℕ → List Outside → 
   ready_unawaited (stage.Picked run) is = cc
   ready_unawaited (stage.Ready response) is = refl
   ready_unawaited (stage.Failed cause) is = cc
-  ready_unawaited stage.Running is = cc
+  ready_unawaited stage.AtWork is = cc
 
   module _ (f new : Flight R) (s : State) (h : Stands M runs f s) (c : Carries M runs f s) (number : f.requests ≡ length s.requests) (slot : Slot R) (pass : PassesSlot f slot new) where
     abbrev pub t : State
@@ -301,7 +301,7 @@ module _ {R : Type 0} (M : Meaning) (runs : R → List ℕ → List Outside → 
           unready_by slot there frame given (stage.Ready None) is x silent other = absurd (silent_ready slot there (silent ∙ x.0) (ap (λ y. is_ready y) is))
           unready_by slot there frame given (stage.Ready (Some response)) is x silent other = absurd (other response is)
           unready_by slot there frame given (stage.Failed cause) is x silent other = ap (λ y. response_of y) x
-          unready_by slot there frame given stage.Running is x silent other = absurd x
+          unready_by slot there frame given stage.AtWork is x silent other = absurd x
 
           module _ (last : Flight R) (pass : PassesReady new None last) where
             response_none : (found : Option (Slot R)) → slice_get new.slots.items 0 ≡ found → response_in M (slice_get u.requests u.passed) ≡ None

@@ -93,7 +93,7 @@ module _ {R : Type 0} (M : Meaning) (runs : R → List ℕ → List Outside → 
   skipped_by cut picked k r (stage.Ready None) h is at later = ap (λ x. hold_or_later picked k (if below cut k then hold_of (length r.given) x else None) later) h.1 ∙ nothing_either picked k later (below cut k)
   skipped_by cut picked k r (stage.Ready (Some response)) h is at later = ap (λ x. hold_or_later picked k (if below cut k then hold_of (length r.given) x else None) later) h.1 ∙ nothing_either picked k later (below cut k)
   skipped_by cut picked k r (stage.Failed cause) h is at later = ap (λ x. hold_or_later picked k (if below cut k then hold_of (length r.given) x else None) later) h ∙ nothing_either picked k later (below cut k)
-  skipped_by cut picked k r stage.Running h is at later = absurd h
+  skipped_by cut picked k r stage.AtWork h is at later = absurd h
 
   cut_skipped : (cut : Option (ℕ × End)) (picked : List (ℕ × ℕ)) (k : ℕ) (r : Request) → below cut k ≡ false → IsSkipped M cut picked k r
   cut_skipped cut picked k r low later = ap (λ b. hold_or_later picked k (if b then hold_of (length r.given) (M.status r.frame r.given) else None) later) low

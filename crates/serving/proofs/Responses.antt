@@ -326,7 +326,7 @@ hold_flag (stage.Held key run) h = refl
 hold_flag (stage.Picked run) h = refl
 hold_flag (stage.Ready response) h = refl
 hold_flag (stage.Failed cause) h = refl
-hold_flag stage.Running h = refl
+hold_flag stage.AtWork h = refl
 
 some_hold : {R : Type 0} → (slot : Slot R) (n : ℕ) (b : Bool) → has_hold slot.stage ≡ b → (if b then Some slot.given else None) ≡ Some n → has_hold slot.stage ≡ true
 some_hold slot n true is h = is

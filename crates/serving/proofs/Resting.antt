@@ -30,7 +30,7 @@ at_rest main free (stage.Held key run) h = (refl, λ cause is. cc)
 at_rest main free (stage.Picked run) h = (refl, λ cause is. cc)
 at_rest main free (stage.Ready response) h = (refl, λ cause is. cc)
 at_rest main free (stage.Failed cause) h = cc
-at_rest main free stage.Running h = cc
+at_rest main free stage.AtWork h = cc
 
 -- and holds back later main sends as its main send says
 lets_main : {R : Type 0} → (main : Bool) (at : Stage R) → stage_rests main at ≡ true → (is_ready at || main) ≡ main
@@ -40,7 +40,7 @@ lets_main main (stage.Held key run) h = refl
 lets_main main (stage.Picked run) h = refl
 lets_main main (stage.Ready response) h = sym h
 lets_main main (stage.Failed cause) h = cc
-lets_main main stage.Running h = cc
+lets_main main stage.AtWork h = cc
 
 -- as it did while it waited
 lets_waiting : {R : Type 0} → (main : Bool) (at : Stage R) (run : R) → waiting_run at ≡ Some run → (is_ready at || main) ≡ main
@@ -50,7 +50,7 @@ lets_waiting main (stage.Held key r) run h = refl
 lets_waiting main (stage.Picked r) run h = refl
 lets_waiting main (stage.Ready response) run h = cc
 lets_waiting main (stage.Failed cause) run h = refl
-lets_waiting main stage.Running run h = refl
+lets_waiting main stage.AtWork run h = refl
 
 -- the same for one limit
 pub at_limit : (P : Type 0) (Q : ℕ → Type 0) (b : Bool) → MatchBool b P ((limit : ℕ) → Q limit) → (limit : ℕ) → MatchBool b P (Q limit)

@@ -45,7 +45,7 @@ module _ {R : Type 0} (M : Meaning) (runs : R → List ℕ → List Outside → 
   no_act_by sends k i free frame given (stage.Ready None) h listed rest = ap (λ x. act_of sends k i free x) h.1
   no_act_by sends k i free frame given (stage.Ready (Some response)) h listed rest = ap (λ x. act_of sends k i free x) h.1
   no_act_by sends k i free frame given (stage.Failed cause) h listed rest = absurd (rest.1 cause refl)
-  no_act_by sends k i free frame given stage.Running h listed rest = absurd h
+  no_act_by sends k i free frame given stage.AtWork h listed rest = absurd h
 
   -- and lets later main sends go as the machine says
   pub lets_by : (sends : List ListedSend) (k : ℕ) (frame : List ℕ) (given : List Outside) (at : Stage R) (main : Bool) → IsStage M runs frame given at → main ≡ has_main sends k → lets_go sends k (M.status frame given) ≡ (is_ready at || main)
@@ -56,7 +56,7 @@ module _ {R : Type 0} (M : Meaning) (runs : R → List ℕ → List Outside → 
   lets_by sends k frame given (stage.Ready None) main h is = ap (λ x. lets_go sends k x) h.1
   lets_by sends k frame given (stage.Ready (Some response)) main h is = ap (λ x. lets_go sends k x) h.1
   lets_by sends k frame given (stage.Failed cause) main h is = ap (λ x. lets_go sends k x) h ∙ sym is
-  lets_by sends k frame given stage.Running main h is = absurd h
+  lets_by sends k frame given stage.AtWork main h is = absurd h
 
   pub if_none : (low : Bool) (act : Option Act) → act ≡ None → (if low then act else None) ≡ None
   if_none true act h = h

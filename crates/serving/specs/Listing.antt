@@ -16,12 +16,12 @@ use Rattle.serving.specs.declared.message.Message.{Message}
 use Rattle.serving.specs.declared.slot.Slot.{Slot}
 use Rattle.serving.specs.declared.slot.Stage.TheVariants as stage
 use Rattle.serving.specs.Flights.{first_of, OnlySlots}
-use Rattle.serving.specs.Services.{CountsOn}
+use Rattle.serving.specs.Services.{behind_id, CountsOn}
 use Rattle.serving.specs.Slots.{waiting_run, may_list, has_main, is_picked, pending, GoesOn, Keeps, IsPassed, IsUntouched}
 
 -- the send that a message of request k is, for its ask number i
 abbrev pub send_of : ℕ → ℕ → Message → ListedSend
-send_of k i m = record { request = k; ask = i; before = m.before; behind = m.behind; main = m.main; responds = m.responds }
+send_of k i m = record { request = k; ask = i; before = m.before; behind = behind_id m; main = m.main; responds = m.responds }
 
 -- the window with that send behind the others
 abbrev pub window_with : ℕ → Message → Window → Window
@@ -153,7 +153,7 @@ module _ {R : Type 0} (M : Meaning) (runs : R → List ℕ → List Outside → 
   abbrev pub FlightSettles : Flight R → Flight R → (before after : ℕ) → Type 0
   FlightSettles old new n m = (s : State) → length s.requests < 2 ^ 64 → Carries old s → (t : State) × IsSettled new s t × TakesGrowth M n m s t
 
-  -- the same, where that holds of those before this place
+  -- the same, where the requests before this place have nothing to do
   abbrev pub FlightSettlesFrom : ℕ → Bool → Flight R → Flight R → (before after : ℕ) → Type 0
   FlightSettlesFrom from free old new n m = (s : State) → length s.requests < 2 ^ 64 → Carries old s → AreQuiet M from free s → (t : State) × IsSettled new s t × TakesGrowth M n m s t
 

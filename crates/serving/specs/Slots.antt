@@ -26,62 +26,35 @@ fresh_slot size silent p = record { size = size; silent = silent; given = 0; mai
 
 -- whether it is done
 abbrev pub is_ready : {R : Type 0} → Stage R → Bool
-is_ready (stage.Unlisted message run) = false
-is_ready (stage.Listed run) = false
-is_ready (stage.Held key run) = false
-is_ready (stage.Picked run) = false
 is_ready (stage.Ready response) = true
-is_ready (stage.Failed cause) = false
-is_ready stage.Running = false
+is_ready _ = false
 
 -- whether its send waits for a response of the broker
 abbrev pub awaits_response : {R : Type 0} → Stage R → Bool
-awaits_response (stage.Unlisted message run) = false
 awaits_response (stage.Listed run) = true
-awaits_response (stage.Held key run) = false
-awaits_response (stage.Picked run) = false
-awaits_response (stage.Ready response) = false
-awaits_response (stage.Failed cause) = false
-awaits_response stage.Running = false
+awaits_response _ = false
 
 -- whether its hold was picked
 abbrev pub awaits_verdict : {R : Type 0} → Stage R → Bool
-awaits_verdict (stage.Unlisted message run) = false
-awaits_verdict (stage.Listed run) = false
-awaits_verdict (stage.Held key run) = false
 awaits_verdict (stage.Picked run) = true
-awaits_verdict (stage.Ready response) = false
-awaits_verdict (stage.Failed cause) = false
-awaits_verdict stage.Running = false
+awaits_verdict _ = false
 
 -- whether it waits for a hold, picked or not
 abbrev pub has_hold : {R : Type 0} → Stage R → Bool
-has_hold (stage.Unlisted message run) = false
-has_hold (stage.Listed run) = false
 has_hold (stage.Held key run) = true
 has_hold (stage.Picked run) = true
-has_hold (stage.Ready response) = false
-has_hold (stage.Failed cause) = false
-has_hold stage.Running = false
+has_hold _ = false
 
 abbrev pub is_unpicked : {R : Type 0} → Stage R → Bool
-is_unpicked (stage.Unlisted message run) = false
-is_unpicked (stage.Listed run) = false
 is_unpicked (stage.Held key run) = true
-is_unpicked (stage.Picked run) = false
-is_unpicked (stage.Ready response) = false
-is_unpicked (stage.Failed cause) = false
-is_unpicked stage.Running = false
+is_unpicked _ = false
 
 -- the run of one that waits for something from outside
 abbrev pub waiting_run : {R : Type 0} → Stage R → Option R
-waiting_run (stage.Unlisted message run) = None
 waiting_run (stage.Listed run) = Some run
 waiting_run (stage.Held key run) = Some run
 waiting_run (stage.Picked run) = Some run
-waiting_run (stage.Ready response) = None
-waiting_run (stage.Failed cause) = None
-waiting_run stage.Running = None
+waiting_run _ = None
 
 abbrev pub holds_none_back : {R : Type 0} → Slot R → Bool
 holds_none_back slot = is_ready slot.stage || slot.main_listed
@@ -89,39 +62,27 @@ holds_none_back slot = is_ready slot.stage || slot.main_listed
 -- whether its message may be listed, where no earlier request holds it back or one may
 abbrev pub lists_at : {R : Type 0} → Bool → Stage R → Bool
 lists_at free (stage.Unlisted message run) = free || not message.main
-lists_at free (stage.Listed run) = false
-lists_at free (stage.Held key run) = false
-lists_at free (stage.Picked run) = false
-lists_at free (stage.Ready response) = false
-lists_at free (stage.Failed cause) = false
-lists_at free stage.Running = false
+lists_at free _ = false
 
 abbrev pub may_list : {R : Type 0} → Bool → Slot R → Bool
 may_list free slot = lists_at free slot.stage
 
 -- how often it may still list a message by itself
-abbrev pub stage_left : {R : Type 0} → (R → ℕ) → Stage R → ℕ
-stage_left left (stage.Unlisted message run) = suc (left run)
-stage_left left (stage.Listed run) = 0
-stage_left left (stage.Held key run) = 0
-stage_left left (stage.Picked run) = 0
-stage_left left (stage.Ready response) = 0
-stage_left left (stage.Failed cause) = 0
-stage_left left stage.Running = 0
+abbrev pub stage_remaining : {R : Type 0} → (R → ℕ) → Stage R → ℕ
+stage_remaining remaining (stage.Unlisted message run) = suc (remaining run)
+stage_remaining remaining _ = 0
 
-abbrev pub slot_left : {R : Type 0} → (R → ℕ) → Slot R → ℕ
-slot_left left slot = stage_left left slot.stage
+abbrev pub slot_remaining : {R : Type 0} → (R → ℕ) → Slot R → ℕ
+slot_remaining remaining slot = stage_remaining remaining slot.stage
 
 -- A request that was just given something rests: nothing is left to do for it, and it holds back later main sends as it
 -- did while it waited.
 abbrev pub stage_rests : {R : Type 0} → Bool → Stage R → Bool
-stage_rests main (stage.Unlisted message run) = false
 stage_rests main (stage.Listed run) = true
 stage_rests main (stage.Held key run) = true
 stage_rests main (stage.Picked run) = true
 stage_rests main (stage.Ready response) = main
-stage_rests main (stage.Failed cause) = false
-stage_rests main stage.Running = false
+stage_rests main _ = false
 
 abbrev pub rests : {R : Type 0} → Slot R → Bool
 rests slot = stage_rests slot.main_listed slot.stage
@@ -159,7 +120,7 @@ module _ {R : Type 0} (M : Meaning) (runs : R → List ℕ → List Outside → 
   IsStage frame given (stage.Picked run) = (key : List ℕ) × (M.status frame given ≡ Waits (Hold key)) × runs run frame given
   IsStage frame given (stage.Ready response) = IsDone (M.silent frame) (M.status frame given) response
   IsStage frame given (stage.Failed cause) = M.status frame given ≡ Fails (why_of cause)
-  IsStage frame given stage.Running = ⊥
+  IsStage frame given stage.AtWork = ⊥
 
   -- its run went on with this
   abbrev pub GoesOn : R → Outside → Slot R → Slot R → Type 0

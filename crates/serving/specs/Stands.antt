@@ -67,7 +67,7 @@ module _ {R : Type 0} (M : Meaning) (runs : R → List ℕ → List Outside → 
   abbrev pub PassesAll : Flight R → Flight R → Type 0
   PassesAll old new = (new.limit ≡ old.limit) × ((s : State) → s.causes.halt ≡ None → Stands old s → Stands new (silent_passed M s))
 
-  -- as far as they were
+  -- some of these silent requests were passed over: the others are still to be
   pub record HavePassed (new : Flight R) (s t : State) : Type 0 where
     pub same : silent_passed M t ≡ silent_passed M s
     pub stands : Stands new t
@@ -87,7 +87,7 @@ module _ {R : Type 0} (M : Meaning) (runs : R → List ℕ → List Outside → 
     pub rest : OnlySlots old mid
     pub slots : mid.slots.items ≡ old.slots.items ++ fresh_slot (length frame) silent progress ∷ []
 
-  -- The frame is counted. Its request's work is so many steps, and settling takes the others.
+  -- The frame is counted. Its request's own work is counted first, the steps of settling behind it.
   pub record Counts (frame : List ℕ) (old mid new : Flight R) (before after : ℕ) : Type 0 where
     pub small : old.requests + 1 < 2 ^ 64
     pub settled : Flight R

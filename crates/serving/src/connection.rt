@@ -1,4 +1,4 @@
-ghost use Rattle.std.specs.Prelude.{◌≡◌, ◌≤◌, ◌<◌, ◌^◌, ℕ, List, length, OnOk, OnErr, true};
+ghost use Rattle.std.specs.Prelude.{◌≡◌, ◌≤◌, ◌<◌, ◌^◌, ℕ, List, length, OnOk, OnErr, true, IfOk, drop};
 ghost use Rattle.conn_rules.specs.Connections.{Follows, FrameComesBack, AnswerComesBack, VerdictComesBack};
 ghost use Rattle.conn_rules.specs.Meaning.{Meaning};
 ghost use Rattle.conn_rules.specs.Room.{limited};
@@ -6,11 +6,12 @@ ghost use Rattle.framing.specs.CorrelationIds.{response_id};
 ghost use Rattle.conn_rules.specs.Causes.{below};
 ghost use Rattle.conn_rules.specs.State.{State, opening};
 ghost use Rattle.serving.specs.Frames.{IsWhole};
-ghost use Rattle.serving.specs.Services.{outside_of};
+ghost use Rattle.serving.specs.Services.{IsRead, outside_of};
 ghost use Rattle.serving.specs.Listing.{SameOutside};
 ghost use Rattle.serving.specs.Flights.{IsStuck};
 ghost use Rattle.serving.specs.Stands.{Stands, FlightTakes, FlightGives, FlightGivesBody, flight_faulted, PassesAll, told_flight, refusal_end};
 
+use crate::cause::Cause;
 use crate::flight::Flight;
 use crate::given::Given;
 use crate::listing::{give, settle};
@@ -29,7 +30,6 @@ use std::alloc::Global;
 #[derive(Drop)]
 pub struct Serving<S: Service> {
     service: S,
-    alloc: Global,
     flight: Flight<S::Run>,
 }
 
@@ -43,7 +43,6 @@ impl<S: Service> Serving<S> {
     {
         Serving {
             service,
-            alloc,
             flight: Flight::new(alloc, in_flight),
         }
     }
@@ -58,11 +57,11 @@ impl<S: Service> Serving<S> {
         let flight = &mut self.flight;
         let number = flight.requests;
         let (silent, progress) = match self.service.begin(frame, steps)? {
-            Begun::Refused(cause) => {
+            Begun::NoRequest(cause) => {
                 flight.causes.cut_at(number, cause.at(number));
                 return Ok(());
             }
-            Begun::Runs { silent, progress } => (silent, progress),
+            Begun::Request { silent, progress } => (silent, progress),
         };
         let size = frame.len() as u64;
         let (Some(requests), Some(count), Some(held)) = (
@@ -75,7 +74,7 @@ impl<S: Service> Serving<S> {
         let last = flight.slots.len();
         flight.slots.push_back(Slot::begun(size, silent, progress))?;
         let free = flight.free;
-        settle(&self.service, self.alloc, flight, last, free, steps)?;
+        settle(&self.service, flight, last, free, steps)?;
         flight.requests = requests;
         flight.count = count;
         flight.held = held;
@@ -99,20 +98,37 @@ impl<S: Service> Serving<S> {
         if !self.flight.causes.is_below_cut(request) {
             return Ok(());
         }
-        let body = frame.slice(4..frame.len())?;
-        match self.service.unreadable(owner.before, body.as_slice())? {
-            Some(cause) => {
+        match self.read_body(owner.before, frame)? {
+            Err(cause) => {
                 self.flight.causes.cut_at(request, cause.at(request));
                 Ok(())
             }
-            None => self.give(request, Given::Body(body), steps),
+            Ok(answer) => self.give(request, Given::Answer(answer), steps),
         }
     }
 
-    /// The request is given what it waits for, and all settle that it leaves something to do.
-    fn give<L>(&mut self, request: u64, given: Given, steps: &mut Steps<L>) -> Result<(), NoMemory>
+    /// The body of an answer, or why it can't be read.
+    fn read_body(
+        &self,
+        before: [u8; 4],
+        frame: &Bytes,
+    ) -> Result<Result<S::Answer, Cause>, NoMemory>
+        requires { 4 ≤ length frame.now }
+        ensures { IfOk result (λ read. IsRead (S.meaning self.now.service) (S.read_from self.now.service) before (drop 4 frame.now) read) }
+    {
+        let body = frame.slice(4..frame.len())?;
+        self.service.read(before, body)
+    }
+
+    /// The request is given what it waits for. If it can act then, all requests settle.
+    fn give<L>(
+        &mut self,
+        request: u64,
+        given: Given<S::Answer>,
+        steps: &mut Steps<L>,
+    ) -> Result<(), NoMemory>
         ensures service { self.new.service ≡ self.old.service }
-        ensures gives { OnOk result (FlightGives (S.meaning self.old.service) (S.stands self.old.service) request (outside_of given) self.old.flight self.new.flight steps.old steps.new) }
+        ensures gives { OnOk result (FlightGives (S.meaning self.old.service) (S.stands self.old.service) request (outside_of (S.read_from self.old.service) given) self.old.flight self.new.flight steps.old steps.new) }
         ensures outside { SameOutside self.old.flight self.new.flight }
     {
         // a request that is no more in flight is never given anything
@@ -124,7 +140,7 @@ impl<S: Service> Serving<S> {
         if self.flight.rests_at(place) {
             return Ok(());
         }
-        settle(&self.service, self.alloc, &mut self.flight, 0, true, steps)
+        settle(&self.service, &mut self.flight, 0, true, steps)
     }
 
     /// What the rules say of a fault.

@@ -17,7 +17,7 @@ const MOST_HELD: u64 = 209_715_200;
 pub(crate) struct Flight<R: Drop> {
     /// How many requests may be in flight.
     pub(crate) limit: u32,
-    /// How many are.
+    /// How many requests are in flight.
     pub(crate) count: u32,
     /// How many bytes their frames have.
     pub(crate) held: u64,

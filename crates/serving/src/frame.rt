@@ -1,5 +1,5 @@
 // A frame as it goes out.
-ghost use Rattle.std.specs.Prelude.{◌≡◌, ◌+◌, ◌-◌, ◌<◌, ◌^◌, ◌++◌, length, IfOk};
+ghost use Rattle.std.specs.Prelude.{◌≡◌, ◌≤◌, ◌+◌, ◌-◌, ◌<◌, ◌^◌, ◌++◌, length, drop, IfOk};
 ghost use Rattle.framing.specs.Frames.{sized};
 ghost use Rattle.serving.specs.Frames.{IsWhole};
 
@@ -36,4 +36,42 @@ impl WholeFrame {
         let bytes = Bytes::from_vec(frame)?;
         Ok(WholeFrame { bytes })
     }
+
+    /// The frame of these two parts and of what stands behind the first twelve bytes of `room`. It takes the place of the
+    /// room, so nothing behind those twelve is copied. A size that INT32 can't hold is answered as want of memory.
+    pub(crate) fn in_room(
+        before: [u8; 4],
+        id: [u8; 4],
+        room: Vec<u8>,
+    ) -> Result<WholeFrame, NoMemory>
+        requires { 12 ≤ length room.items }
+        ensures { IfOk result (λ frame. frame.bytes ≡ sized (before ++ id ++ drop 12 room.items)) }
+    {
+        let Ok(size) = i32::try_from(room.len() - 4) else {
+            return Err(NoMemory);
+        };
+        let mut frame = room;
+        put_head(
+            frame.as_mut_slice(),
+            &head_of(size.to_be_bytes(), before, id),
+        );
+        let bytes = Bytes::from_vec(frame)?;
+        Ok(WholeFrame { bytes })
+    }
+}
+
+fn put_head(frame: &mut [u8], head: &[u8; 12])
+    requires { 12 ≤ length frame.old }
+    ensures { frame.new ≡ head.now ++ drop 12 frame.old }
+{
+    frame.split_at_mut(12).0.copy_from_slice(head);
+}
+
+fn head_of(size: [u8; 4], before: [u8; 4], id: [u8; 4]) -> [u8; 12]
+    ensures { result ≡ size ++ before ++ id }
+{
+    [
+        size[0], size[1], size[2], size[3], before[0], before[1], before[2], before[3], id[0],
+        id[1], id[2], id[3],
+    ]
 }

@@ -5,7 +5,7 @@ ghost use Rattle.conn_rules.specs.Room.{limited};
 ghost use Rattle.conn_rules.specs.State.{Outside};
 ghost use Rattle.correlation.specs.WindowOf.{window_of};
 ghost use Rattle.serving.specs.Services.{outside_of};
-ghost use Rattle.serving.specs.Slots.{may_list, slot_left};
+ghost use Rattle.serving.specs.Slots.{may_list, slot_remaining};
 ghost use Rattle.serving.specs.Listing.{window_with, ListsNext, CountsNext, Advances, SettlesAt, FlightSettlesFrom, SameOutside, GivesAt, CountsAt};
 
 use crate::flight::Flight;
@@ -17,15 +17,14 @@ use crate::slot::{Slot, Stage, go_on};
 use conn_rules::Causes;
 use correlation::{Owner, Sends};
 use kp_edge::{NoMemory, Steps};
-use std::alloc::Global;
 
 /// The message of this request is a send, behind the others.
-fn list(alloc: Global, sends: &mut Sends, request: u64, message: &Message) -> Result<(), NoMemory>
-    ensures { OnOk result (window_of sends.new ≡ window_with request message.now (window_of sends.old)) }
+fn list(sends: &mut Sends, request: u64, message: Message) -> Result<(), NoMemory>
+    ensures { OnOk result (window_of sends.new ≡ window_with request message (window_of sends.old)) }
 {
     let id = sends.next_id().to_be_bytes();
     let before = message.before;
-    let frame = WholeFrame::of_parts(alloc, &before, id, message.behind.as_slice())?;
+    let frame = WholeFrame::in_room(before, id, message.room)?;
     let owner = Owner {
         request,
         main: message.main,
@@ -39,7 +38,6 @@ fn list(alloc: Global, sends: &mut Sends, request: u64, message: &Message) -> Re
 /// The request's message is listed, if it may be. One that gets no response counts as answered without one at once.
 fn list_next<S: Service, L>(
     service: &S,
-    alloc: Global,
     sends: &mut Sends,
     request: u64,
     free: bool,
@@ -48,14 +46,15 @@ fn list_next<S: Service, L>(
 ) -> Result<bool, NoMemory>
     ensures lists { IfOk result (λ listed. ListsNext (S.meaning service.now) (S.stands service.now) request free slot.old (window_of sends.old) listed slot.new (window_of sends.new)) }
     ensures counted { IfOk result (λ listed. CountsNext (S.meaning service.now) (S.stands service.now) listed slot.old steps.old steps.new) }
-    ensures fewer { result ≡ Ok true → slot_left (S.left service.now) slot.new < slot_left (S.left service.now) slot.old }
+    ensures fewer { result ≡ Ok true → slot_remaining (S.remaining service.now) slot.new < slot_remaining (S.remaining service.now) slot.old }
 {
     let Some((message, run)) = slot.unlisted(free) else {
         return Ok(false);
     };
-    list(alloc, sends, request, &message)?;
     slot.main_listed = slot.main_listed || message.main;
-    if message.responds {
+    let responds = message.responds;
+    list(sends, request, message)?;
+    if responds {
         slot.stage = Stage::Listed(run);
     } else {
         go_on(service, slot, run, Given::NoResponse, steps)?;
@@ -66,7 +65,6 @@ fn list_next<S: Service, L>(
 /// The request lists what it can.
 fn list_all<S: Service, L>(
     service: &S,
-    alloc: Global,
     sends: &mut Sends,
     request: u64,
     free: bool,
@@ -76,7 +74,7 @@ fn list_all<S: Service, L>(
     ensures advances { OnOk result ((limit : ℕ) → Advances (limited limit (S.meaning service.now)) (S.stands service.now) request free slot.old (window_of sends.old) slot.new (window_of sends.new) steps.old steps.new) }
     ensures done { OnOk result (may_list free slot.new ≡ false) }
 {
-    'asks: while list_next(service, alloc, sends, request, free, slot, steps)? {}
+    'asks: while list_next(service, sends, request, free, slot, steps)? {}
     Ok(())
 }
 
@@ -84,7 +82,6 @@ fn list_all<S: Service, L>(
 /// anything any more.
 fn settle_at<S: Service, L>(
     service: &S,
-    alloc: Global,
     causes: &mut Causes,
     sends: &mut Sends,
     request: u64,
@@ -99,7 +96,7 @@ fn settle_at<S: Service, L>(
     if !causes.is_below_cut(request) {
         return Ok(None);
     }
-    list_all(service, alloc, sends, request, free, slot, steps)?;
+    list_all(service, sends, request, free, slot, steps)?;
     if let Stage::Failed(cause) = slot.stage {
         causes.cut_at(request, cause.at(request));
         return Ok(None);
@@ -111,7 +108,6 @@ fn settle_at<S: Service, L>(
 /// back later main sends.
 pub(crate) fn settle<S: Service, L>(
     service: &S,
-    alloc: Global,
     flight: &mut Flight<S::Run>,
     from: usize,
     free: bool,
@@ -129,7 +125,7 @@ pub(crate) fn settle<S: Service, L>(
         };
         let causes = &mut flight.causes;
         let sends = &mut flight.sends;
-        match settle_at(service, alloc, causes, sends, request, free, slot, steps)? {
+        match settle_at(service, causes, sends, request, free, slot, steps)? {
             Some(free_behind) => free = free_behind,
             None => return Ok(()),
         }
@@ -143,11 +139,11 @@ pub(crate) fn give<S: Service, L>(
     service: &S,
     flight: &mut Flight<S::Run>,
     place: usize,
-    given: Given,
+    given: Given<S::Answer>,
     steps: &mut Steps<L>,
 ) -> Result<(), NoMemory>
-    ensures gives { OnOk result (GivesAt (S.meaning service.now) (S.stands service.now) place (outside_of given) flight.old flight.new) }
-    ensures counted { OnOk result (CountsAt (S.meaning service.now) (S.stands service.now) place (outside_of given) flight.old steps.old steps.new) }
+    ensures gives { OnOk result (GivesAt (S.meaning service.now) (S.stands service.now) place (outside_of (S.read_from service.now) given) flight.old flight.new) }
+    ensures counted { OnOk result (CountsAt (S.meaning service.now) (S.stands service.now) place (outside_of (S.read_from service.now) given) flight.old steps.old steps.new) }
     ensures outside { SameOutside flight.old flight.new }
 {
     // a slot that isn't there, or that waits for nothing, is never given anything

@@ -7,9 +7,9 @@ use kp_edge::Blob;
 #[derive(Drop)]
 pub enum Begun<R: Drop> {
     /// It is no request, and ends the connection in its place.
-    Refused(Cause),
+    NoRequest(Cause),
     /// It is a request. A silent one gets no response.
-    Runs { silent: bool, progress: Progress<R> },
+    Request { silent: bool, progress: Progress<R> },
 }
 
 /// How far a request has come, with the run that goes on once it is given what it waits for.

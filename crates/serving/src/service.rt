@@ -1,7 +1,7 @@
 ghost use Rattle.std.specs.Prelude.{◌≡◌, ◌≤◌, ◌+◌, ◌++◌, ◌∷◌, [], ℕ, List, length, IfOk, OnOk};
 ghost use Rattle.conn_rules.specs.Meaning.{Meaning};
 ghost use Rattle.conn_rules.specs.State.{Outside};
-ghost use Rattle.serving.specs.Services.{Begins, IsProgress, CountsOn, work_begun, outside_of, cause_function, progress_left};
+ghost use Rattle.serving.specs.Services.{Begins, IsProgress, CountsOn, work_begun, outside_of, IsRead, progress_remaining};
 
 use crate::cause::Cause;
 use crate::given::Given;
@@ -15,14 +15,20 @@ pub trait Service: Drop {
     /// A request that waits.
     type Run: Drop;
 
+    /// The body of a response, read.
+    type Answer: Drop;
+
     /// What requests mean. Its room is not this trait's: a connection has a limit of its own.
     ghost meaning: { Self → Meaning };
 
     /// Which runs are those of a request with this frame that was given so much.
     ghost stands: { Self → Self.Run → List ℕ → List Outside → Type 0 };
 
+    /// The bytes that an answer was read from.
+    ghost read_from: { Self → Self.Answer → List ℕ };
+
     /// How often a run may wait once more, at most.
-    ghost left: { Self → Self.Run → ℕ };
+    ghost remaining: { Self → Self.Run → ℕ };
 
     /// A client's frame, without its size.
     fn begin<L>(&self, frame: &Bytes, steps: &mut Steps<L>) -> Result<Begun<Self::Run>, NoMemory>
@@ -34,14 +40,14 @@ pub trait Service: Drop {
     fn go_on<L>(
         &self,
         run: Self::Run,
-        given: Given,
+        given: Given<Self::Answer>,
         steps: &mut Steps<L>,
     ) -> Result<Progress<Self::Run>, NoMemory>
-        ensures right { IfOk result (λ progress. (frame : List ℕ) (before : List Outside) → stands self.now run frame before → IsProgress (meaning self.now) (stands self.now) frame (before ++ outside_of given ∷ []) progress) }
-        ensures counted { OnOk result (CountsOn (meaning self.now) (stands self.now) run (outside_of given) steps.old steps.new) }
-        ensures fewer { IfOk result (λ progress. progress_left (left self.now) progress ≤ left self.now run) };
+        ensures right { IfOk result (λ progress. (frame : List ℕ) (before : List Outside) → stands self.now run frame before → IsProgress (meaning self.now) (stands self.now) frame (before ++ outside_of (read_from self.now) given ∷ []) progress) }
+        ensures counted { OnOk result (CountsOn (meaning self.now) (stands self.now) run (outside_of (read_from self.now) given) steps.old steps.new) }
+        ensures fewer { IfOk result (λ progress. progress_remaining (remaining self.now) progress ≤ remaining self.now run) };
 
-    /// Why the body of a response can't be read, by the key and the version of its request.
-    fn unreadable(&self, before: [u8; 4], body: &[u8]) -> Result<Option<Cause>, NoMemory>
-        ensures { IfOk result (λ cause. cause_function cause ≡ (meaning self.now).unreadable before body.now) };
+    /// The body of a response, or why it can't be read. `before` is the key and the version of its request.
+    fn read(&self, before: [u8; 4], body: Bytes) -> Result<Result<Self::Answer, Cause>, NoMemory>
+        ensures { IfOk result (λ read. IsRead (meaning self.now) (read_from self.now) before body read) };
 }

@@ -1,7 +1,7 @@
 // What is kept of a request in flight.
 ghost use Rattle.std.specs.Prelude.{◌≡◌, ◌≤◌, IfSome, IsNone, OnOk, true, false};
 ghost use Rattle.serving.specs.Services.{CountsOn, outside_of};
-ghost use Rattle.serving.specs.Slots.{fresh_slot, stage_of, holds_none_back, rests, may_list, GoesOn, waiting_run, slot_left, PicksHold};
+ghost use Rattle.serving.specs.Slots.{fresh_slot, stage_of, holds_none_back, rests, may_list, GoesOn, waiting_run, slot_remaining, PicksHold};
 
 use crate::cause::Cause;
 use crate::frame::WholeFrame;
@@ -42,7 +42,7 @@ pub(crate) enum Stage<R: Drop> {
     /// It ends the connection.
     Failed(Cause),
     /// Its run is at work. It stays so only where memory was wanting.
-    Running,
+    AtWork,
 }
 
 pub(crate) fn stage_of<R: Drop>(progress: Progress<R>) -> Stage<R>
@@ -97,13 +97,13 @@ impl<R: Drop> Slot<R> {
     /// The message that it waits to have listed, and its run. A main one is listed only where no earlier request holds
     /// it back.
     pub(crate) fn unlisted(&mut self, free: bool) -> Option<(Message, R)>
-        ensures some { IfSome result (λ taken. (self.old.stage ≡ Stage.Unlisted taken.0 taken.1) × (may_list free self.old ≡ true) × (self.new ≡ record self.old { stage = Stage.Running })) }
+        ensures some { IfSome result (λ taken. (self.old.stage ≡ Stage.Unlisted taken.0 taken.1) × (may_list free self.old ≡ true) × (self.new ≡ record self.old { stage = Stage.AtWork })) }
         ensures none { IsNone result → (self.new ≡ self.old) × (may_list free self.old ≡ false) }
     {
         if !matches!(self.stage, Stage::Unlisted(_, _)) {
             return None;
         }
-        match replace(&mut self.stage, Stage::Running) {
+        match replace(&mut self.stage, Stage::AtWork) {
             Stage::Unlisted(message, run) => {
                 if free || !message.main {
                     Some((message, run))
@@ -122,9 +122,9 @@ impl<R: Drop> Slot<R> {
     /// The run of a request that waits for the broker's response or for a verdict.
     pub(crate) fn waiting_run(&mut self) -> Option<R>
         ensures run { result ≡ waiting_run self.old.stage }
-        ensures rest { IfSome result (λ run. self.new ≡ record self.old { stage = Stage.Running }) }
+        ensures rest { IfSome result (λ run. self.new ≡ record self.old { stage = Stage.AtWork }) }
     {
-        match replace(&mut self.stage, Stage::Running) {
+        match replace(&mut self.stage, Stage::AtWork) {
             Stage::Listed(run) => Some(run),
             Stage::Held(_, run) => Some(run),
             Stage::Picked(run) => Some(run),
@@ -139,7 +139,7 @@ impl<R: Drop> Slot<R> {
     pub(crate) fn pick(&mut self) -> Option<Blob>
         ensures { PicksHold self.old result self.new }
     {
-        match replace(&mut self.stage, Stage::Running) {
+        match replace(&mut self.stage, Stage::AtWork) {
             Stage::Held(key, run) => {
                 self.stage = Stage::Picked(run);
                 Some(key)
@@ -157,12 +157,12 @@ pub(crate) fn go_on<S: Service, L>(
     service: &S,
     slot: &mut Slot<S::Run>,
     run: S::Run,
-    given: Given,
+    given: Given<S::Answer>,
     steps: &mut Steps<L>,
 ) -> Result<(), NoMemory>
-    ensures right { OnOk result (GoesOn (S.meaning service.now) (S.stands service.now) run (outside_of given) slot.old slot.new) }
-    ensures counted { OnOk result (CountsOn (S.meaning service.now) (S.stands service.now) run (outside_of given) steps.old steps.new) }
-    ensures fewer { OnOk result (slot_left (S.left service.now) slot.new ≤ S.left service.now run) }
+    ensures right { OnOk result (GoesOn (S.meaning service.now) (S.stands service.now) run (outside_of (S.read_from service.now) given) slot.old slot.new) }
+    ensures counted { OnOk result (CountsOn (S.meaning service.now) (S.stands service.now) run (outside_of (S.read_from service.now) given) steps.old steps.new) }
+    ensures fewer { OnOk result (slot_remaining (S.remaining service.now) slot.new ≤ S.remaining service.now run) }
 {
     let Some(count) = slot.given.checked_add(1) else {
         return Err(NoMemory);

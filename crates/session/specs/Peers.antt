@@ -52,24 +52,12 @@ answer_receipt answer_fault.NoMemory = receipt.NoMemory
 abbrev pub client_receipt : Reply → Option Receipt
 client_receipt (reply.Take (Ok _)) = Some receipt.Accepted
 client_receipt (reply.Take (Err e)) = Some (take_receipt e)
-client_receipt (reply.Answer _) = None
-client_receipt (reply.Complete _) = None
-client_receipt reply.Noted = None
-client_receipt (reply.Send _) = None
-client_receipt (reply.Emit _) = None
-client_receipt (reply.Pick _) = None
-client_receipt (reply.Look _) = None
+client_receipt _ = None
 
 abbrev pub broker_receipt : Reply → Option Receipt
 broker_receipt (reply.Answer (Ok _)) = Some receipt.Accepted
 broker_receipt (reply.Answer (Err e)) = Some (answer_receipt e)
-broker_receipt (reply.Take _) = None
-broker_receipt (reply.Complete _) = None
-broker_receipt reply.Noted = None
-broker_receipt (reply.Send _) = None
-broker_receipt (reply.Emit _) = None
-broker_receipt (reply.Pick _) = None
-broker_receipt (reply.Look _) = None
+broker_receipt _ = None
 
 abbrev pub frame_receipt : Peer → Reply → Option Receipt
 frame_receipt peer.Client r = client_receipt r

@@ -1,4 +1,4 @@
--- What a push does: whatever of a stream wasn't handed on yet is, one frame after another, as far as there is room.
+-- What a push does: it hands on the frames of a stream, one after another, as far as there is room.
 use Rattle.std.specs.Prelude.{◌≡◌, ℕ, ◌++◌, Bool, true, false, List, [], ◌∷◌, map, All, Option, Some, None, Result, Ok, Err, ◌⊎◌}
 use Rattle.std.specs.List.{flat_map, list_any}
 use Rattle.kp_edge.specs.declared.no_memory.NoMemory.{NoMemory}
@@ -26,18 +26,13 @@ noted_entry e = entry_of e reply.Noted
 
 -- a frame that was accepted or refused: it is no matter of the stream any more, and memory was not wanting
 abbrev pub is_handed_on : Option Receipt → Bool
-is_handed_on None = false
 is_handed_on (Some receipt.Accepted) = true
 is_handed_on (Some receipt.Refused) = true
-is_handed_on (Some (receipt.Full back)) = false
-is_handed_on (Some receipt.NoMemory) = false
+is_handed_on _ = false
 
 abbrev pub is_refused : Option Receipt → Bool
-is_refused None = false
-is_refused (Some receipt.Accepted) = false
 is_refused (Some receipt.Refused) = true
-is_refused (Some (receipt.Full back)) = false
-is_refused (Some receipt.NoMemory) = false
+is_refused _ = false
 
 pub record IsHandedOn (p : Peer) (h : Entry) : Type 0 where
   pub frame : List ℕ

@@ -34,7 +34,5 @@ NextIs old (Err e) new = BeginsFrame (least_size old.peer) (most_size old.peer) 
 
 -- what became of a frame of this peer
 abbrev pub ComesBack : List ℕ → Receipt → Type 0
-ComesBack frame receipt.Accepted = Unit {0}
-ComesBack frame receipt.Refused = Unit {0}
 ComesBack frame (receipt.Full back) = back ≡ frame
-ComesBack frame receipt.NoMemory = Unit {0}
+ComesBack frame _ = Unit {0}

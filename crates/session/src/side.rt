@@ -139,7 +139,7 @@ impl Side {
         }
     }
 
-    // No whole frame is left. A bad size that stands there is told, and that the stream has ended, each once.
+    // No whole frame is left. A bad size at the front and the end of the stream are each told once.
     fn tell_tail<C: Connection>(&mut self, bad: Option<Fault>, connection: &mut C)
         requires none { self.old.kept ≡ None }
         requires bad { bad ≡ tail_fault (stream_of self.old) }

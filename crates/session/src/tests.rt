@@ -1,10 +1,11 @@
-use self::noting::{LONG, Noting};
+use self::noting::Noting;
 use super::*;
 use conn_rules::{Emit, Fault};
 use kp_edge::{Blob, NoMemory, Steps};
 use std::alloc::Global;
 use std::test::*;
 
+mod ample;
 mod noting;
 
 // A call of a station.
@@ -230,7 +231,7 @@ const CASES: &[Case] = &[
             (Call::Done(1, 0, b""), "not-waiting"),
             (Call::Done(18_446_744_073_709_551_615, 0, b""), "no-memory"),
         ],
-        notes: "complete 0 4294967295 with 3; complete 1 0 with 0; complete 18446744073709551615 0 with 0; ",
+        notes: "complete 0 4294967295 with yes; complete 1 0 with ; complete 18446744073709551615 0 with ; ",
     },
     Case {
         name: "a fault outside",
@@ -287,69 +288,6 @@ fn calls_in_turn(rt: HostRuntime) -> Result<(), Fail> {
         let text = std::str::from_utf8(notes.as_slice()).ok().ok_or("text")?;
         assert_eq!(rt; text, case.notes, "{}", case.name);
         assert!(rt; station.pick().is_none(), "{}", case.name);
-    }
-    Ok(())
-}
-
-// So many frames of this length, which come in pieces of such a length.
-const SIZES: [(u32, u32, usize); 6] = [
-    (1, 8, 1),
-    (1, 3_145_728, 1_048_576),
-    (1, 65_540, 65_536),
-    (20_000, 9, 260_000),
-    (1_000, 8, 5),
-    (3, 1_048_577, 3_145_743),
-];
-
-// A stream of frames, each of which ends in `+`.
-fn stream(alloc: Global, frames: u32, length: u32) -> Result<Vec<u8>, Fail> {
-    let mut bytes = Vec::new(alloc);
-    for _ in 0..frames {
-        bytes.extend_from_slice(&length.to_be_bytes())?;
-        for _ in 1..length {
-            bytes.push(b'x')?;
-        }
-        bytes.push(b'+')?;
-    }
-    Ok(bytes)
-}
-
-// What a connection notes of one of them.
-fn note_of(alloc: Global, length: u32) -> Result<String, Fail> {
-    if length as usize > LONG {
-        return Ok(format!(in alloc; "take {length} bytes; ")?);
-    }
-    let mut note = String::from_str(alloc, "take ")?;
-    for _ in 1..length {
-        note.push('x')?;
-    }
-    note.push_str("+; ")?;
-    Ok(note)
-}
-
-#[test]
-fn many_frames_and_long_ones(rt: HostRuntime) -> Result<(), Fail> {
-    let mut steps = Steps::<()>::new();
-    for (frames, length, piece) in SIZES {
-        let mut station = Station::new(rt.alloc(), Noting::new(rt.alloc()));
-        let bytes = stream(rt.alloc(), frames, length)?;
-        for piece in bytes.as_slice().chunks(piece) {
-            assert_eq!(rt;
-                station.client(piece, &mut steps),
-                Ok(Told::Fine),
-                "{frames} of {length}"
-            );
-        }
-        let note = note_of(rt.alloc(), length)?;
-        let mut wanted = String::new(rt.alloc());
-        for _ in 0..frames {
-            wanted.push_str(note.as_str())?;
-        }
-        let notes = station.send().ok_or("the notes")?;
-        assert!(rt;
-            notes.as_slice() == wanted.as_bytes(),
-            "{frames} of {length}"
-        );
     }
     Ok(())
 }

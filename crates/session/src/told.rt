@@ -1,7 +1,7 @@
 /// What the caller of a station is told.
 #[derive(Clone, Copy, Debug, PartialEq, Eq)]
 pub enum Told {
-    /// All is done.
+    /// None of the others: each frame found room, and nothing was refused.
     Fine,
     /// A client's frame found no room, and is kept.
     Full,

@@ -64,23 +64,23 @@ flagged_few flags [] = omega arith
 flagged_few [] (x ∷ xs) = omega arith
 flagged_few (b ∷ flags) (x ∷ xs) = flag_few b x (flagged flags xs) (length xs) (flagged_few flags xs)
 
-array_left : {A : Type 0} (f : A → List Primitive) (flags : List Bool) (xs : Option (List A)) → AreInRange (array_items f xs) → AreInRange (array_items f (option_map (flagged flags) xs))
-array_left f flags None h = h
-array_left f flags (Some xs) h = let few = flagged_few flags xs in (omega (arith, h.0, few), flagged_fit f flags xs h.1)
+array_flagged_fits : {A : Type 0} (f : A → List Primitive) (flags : List Bool) (xs : Option (List A)) → AreInRange (array_items f xs) → AreInRange (array_items f (option_map (flagged flags) xs))
+array_flagged_fits f flags None h = h
+array_flagged_fits f flags (Some xs) h = let few = flagged_few flags xs in (omega (arith, h.0, few), flagged_fit f flags xs h.1)
 
-left_in_range : (shape : Shape) (value new : Value shape) (flags : List Bool) → value_flagged shape value (0 ∷ []) flags ≡ Ok new → AreInRange (items_of shape value) → AreInRange (items_of shape new)
-left_in_range End value new flags e h = absurd cc
-left_in_range (Plain kind rest) value new flags e h = absurd cc
-left_in_range (Array entry rest) value new flags e h =
+flagged_in_range : (shape : Shape) (value new : Value shape) (flags : List Bool) → value_flagged shape value (0 ∷ []) flags ≡ Ok new → AreInRange (items_of shape value) → AreInRange (items_of shape new)
+flagged_in_range End value new flags e h = absurd cc
+flagged_in_range (Plain kind rest) value new flags e h = absurd cc
+flagged_in_range (Array entry rest) value new flags e h =
     let front = array_items (items_of entry) value.0 in
     let back = items_of rest value.1 in
     let same : (option_map (flagged flags) value.0, value.1) ≡ new = cc in
-    let fit : AreInRange (items_of (Array entry rest) (option_map (flagged flags) value.0, value.1)) = in_range-append (array_items (items_of entry) (option_map (flagged flags) value.0)) back (array_left (items_of entry) flags value.0 (in_range-front front back h)) (in_range-back front back h) in
+    let fit : AreInRange (items_of (Array entry rest) (option_map (flagged flags) value.0, value.1)) = in_range-append (array_items (items_of entry) (option_map (flagged flags) value.0)) back (array_flagged_fits (items_of entry) flags value.0 (in_range-front front back h)) (in_range-back front back h) in
     subst (λ (v : Value (Array entry rest)). AreInRange (items_of (Array entry rest) v)) same fit
 
 with_value_tree : (request : Contents) (value : Value (body_shape request)) (flags : List Bool) (left : Result (Value (body_shape request)) EditFault) → value_flagged (body_shape request) value (0 ∷ []) flags ≡ left
     → AreInRange (items_of (body_shape request) value) → IsTree request → IsTree (with_value request left)
-with_value_tree request value flags (Ok new) e h tree = record { value = new; is = refl; in_range = left_in_range (body_shape request) value new flags e h }
+with_value_tree request value flags (Ok new) e h tree = record { value = new; is = refl; in_range = flagged_in_range (body_shape request) value new flags e h }
 with_value_tree request value flags (Err fault) e h tree = tree
 
 with_flagged_tree : (request : Contents) (flags : List Bool) (found : Option (Value (body_shape request))) → IsFound (body_shape request) request.items found → IsTree request → IsTree (with_flagged request flags found)

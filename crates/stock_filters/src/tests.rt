@@ -5,17 +5,43 @@ mod topic_policy;
 use super::*;
 use bytes::Bytes;
 use filter_core::{Filter, Input, Move, Reason};
-use kp_edge::Blob;
+use kp_edge::{Blob, NoMemory};
 use kp_schema::Dir;
 use std::alloc::Global;
 use std::test::*;
-use tree_codec::{Body, Builder, Item, decode, encode};
+use tree_codec::{Body, decode, encode};
 
-// A Metadata request for all topics.
+// A Metadata request for topic a and for one without a name.
+const METADATA: &'static [u8] = b"\0\0\0\x02\0\x01a\xff\xff";
+
 fn metadata(alloc: Global) -> Option<Body> {
-    let mut out = Builder::new(alloc, 3, 1, Dir::Request);
-    out.put(Item::Entries(None)).ok()?;
-    out.finish().ok()
+    let bytes = Bytes::from_static(METADATA);
+    decode(alloc, 3, 1, Dir::Request, bytes).ok()
+}
+
+// What goes on, or goes back: its key and version, and its bytes.
+fn spelled(alloc: Global, body: &Body) -> Option<(i16, i16, Bytes)> {
+    let bytes = encode(alloc, body, 256).ok()?;
+    Some((body.key(), body.version(), bytes))
+}
+
+// What a filter forwards.
+fn forwarded<P: Drop>(
+    alloc: Global,
+    moved: Result<Move<P>, NoMemory>,
+) -> Option<(i16, i16, Bytes)> {
+    match moved {
+        Ok(Move::Forward(message, _pending)) => spelled(alloc, &message),
+        _other => None,
+    }
+}
+
+// What a filter returns.
+fn returned<P: Drop>(alloc: Global, moved: Result<Move<P>, NoMemory>) -> Option<(i16, i16, Bytes)> {
+    match moved {
+        Ok(Move::Return(Some(response))) => spelled(alloc, &response),
+        _other => None,
+    }
 }
 
 #[test]
@@ -39,11 +65,9 @@ fn a_request_that_is_not_listed_goes_on(rt: HostRuntime) -> Result<(), Fail> {
     keys.push(18)?;
     let filter = ApiBlock { keys };
     let request = metadata(rt.alloc()).ok_or("memory")?;
-    let key = match filter.start(rt.alloc(), request) {
-        Ok(Move::Forward(message, _pending)) => Some(message.key()),
-        _other => None,
-    };
-    assert_eq!(rt; key, Some(3));
+    let moved = filter.start(rt.alloc(), request);
+    let went = forwarded(rt.alloc(), moved).ok_or("it goes on")?;
+    assert_eq!(rt; (went.0, went.1, went.2.as_slice()), (3, 1, METADATA));
     Ok(())
 }
 
@@ -100,11 +124,9 @@ fn versions_are_narrowed(rt: HostRuntime) -> Result<(), Fail> {
 #[test]
 fn narrow_forwards_each_request(rt: HostRuntime) -> Result<(), Fail> {
     let request = metadata(rt.alloc()).ok_or("memory")?;
-    let key = match Narrow.start(rt.alloc(), request) {
-        Ok(Move::Forward(message, _pending)) => Some(message.key()),
-        _other => None,
-    };
-    assert_eq!(rt; key, Some(3));
+    let moved = Narrow.start(rt.alloc(), request);
+    let went = forwarded(rt.alloc(), moved).ok_or("it goes on")?;
+    assert_eq!(rt; (went.0, went.1, went.2.as_slice()), (3, 1, METADATA));
     let back = match Narrow.resume(rt.alloc(), Forwarded, Input::NoResponse) {
         Ok(Move::Return(back)) => Some(back.is_none()),
         _other => None,
@@ -192,17 +214,15 @@ fn acks_of_one_become_all(rt: HostRuntime) -> Result<(), Fail> {
 #[test]
 fn produce_all_leaves_other_requests(rt: HostRuntime) -> Result<(), Fail> {
     let request = metadata(rt.alloc()).ok_or("memory")?;
-    let key = match ProduceAll.start(rt.alloc(), request) {
-        Ok(Move::Forward(message, _pending)) => Some(message.key()),
-        _other => None,
-    };
-    assert_eq!(rt; key, Some(3));
-    let back = metadata(rt.alloc()).ok_or("memory")?;
-    let back = match ProduceAll.resume(rt.alloc(), Forwarded, Input::Response(back)) {
-        Ok(Move::Return(Some(back))) => Some(back.key()),
-        _other => None,
-    };
-    assert_eq!(rt; back, Some(3));
+    let moved = ProduceAll.start(rt.alloc(), request);
+    let went = forwarded(rt.alloc(), moved).ok_or("it goes on")?;
+    assert_eq!(rt; (went.0, went.1, went.2.as_slice()), (3, 1, METADATA));
+    let told: &'static [u8] = b"\0\0\0\0\0\0\0\x09\0\0\0\x01\0\x03\0\x01a\0\0\0\0\0";
+    let came = decode(rt.alloc(), 3, 1, Dir::Response, Bytes::from_static(told));
+    let came = Input::Response(came.ok().ok_or("response")?);
+    let moved = ProduceAll.resume(rt.alloc(), Forwarded, came);
+    let back = returned(rt.alloc(), moved).ok_or("it goes back")?;
+    assert_eq!(rt; (back.0, back.1, back.2.as_slice()), (3, 1, told));
     Ok(())
 }
 

@@ -5,8 +5,17 @@ use std::alloc::Global;
 use std::process::Abort;
 use wire_types::Writer;
 
+mod ample;
+
 // A line in words of this test's own, so that what was read can be compared.
-fn shown(rt: &impl Abort, alloc: Global, line: &Line) -> String {
+fn shown(rt: &impl Abort, alloc: Global, read: Result<Line, LineFault>) -> String {
+    match read {
+        Ok(line) => line_shown(rt, alloc, &line),
+        Err(fault) => format!(in alloc; "{fault:?}").expect(rt, "memory"),
+    }
+}
+
+fn line_shown(rt: &impl Abort, alloc: Global, line: &Line) -> String {
     let text = match line {
         Line::Client(bytes) => format!(in alloc; "client {:?}", bytes.as_slice()),
         Line::Broker(bytes) => format!(in alloc; "broker {:?}", bytes.as_slice()),
@@ -75,8 +84,8 @@ fn lines_of_the_grammar_are_read(rt: HostRuntime) {
         ),
     ];
     for (text, want) in table {
-        let line = read_line(rt.alloc(), text.as_bytes()).expect(&rt, text);
-        assert_eq!(rt; shown(&rt, rt.alloc(), &line).as_str(), want);
+        let read = read_line(rt.alloc(), text.as_bytes());
+        assert_eq!(rt; (text, shown(&rt, rt.alloc(), read).as_str()), (text, want));
     }
 }
 
@@ -303,18 +312,6 @@ fn other_words_behind_done_are_refused(rt: HostRuntime) {
     }
 }
 
-// An answer of the authority has at most 8,388,608 bytes.
-#[test]
-fn a_long_verdict_is_refused(rt: HostRuntime) {
-    for (bytes, fits) in [(8_388_608usize, true), (8_388_609, false)] {
-        let mut text = String::from_str(rt.alloc(), "done 1 2 ").expect(&rt, "memory");
-        for _ in 0..bytes {
-            text.push_str("00").expect(&rt, "memory");
-        }
-        assert_eq!(rt; read_line(rt.alloc(), text.as_bytes()).is_ok(), fits);
-    }
-}
-
 fn frame(rt: &impl Abort, alloc: Global, bytes: &[u8]) -> Bytes {
     Bytes::copy_from_slice(alloc, bytes).expect(rt, "memory")
 }
@@ -409,8 +406,12 @@ fn answers_are_printed(rt: HostRuntime) {
     let mut out = Writer::new(alloc);
     for (answer, want) in table {
         out.clear();
-        print(&answer, &mut out).expect(&rt, "memory");
-        assert_eq!(rt; out.as_slice(), want.as_bytes());
+        let printed = print(&answer, &mut out);
+        assert_eq!(rt;
+            (printed, std::str::from_utf8(out.as_slice()).ok()),
+            (Ok(()), Some(want)),
+            "{answer:?}"
+        );
     }
 }
 
@@ -431,6 +432,6 @@ fn a_long_frame_is_printed_behind_what_stands_there(rt: HostRuntime) {
     line.extend_from_slice(digits).expect(&rt, "memory");
     match read_line(rt.alloc(), line.as_slice()) {
         Ok(Line::Client(again)) => assert_eq!(rt; again.as_slice(), bytes.as_slice()),
-        _ => assert!(rt; false),
+        other => assert!(rt; false, "wanted the same bytes, got {other:?}"),
     }
 }

@@ -197,7 +197,7 @@ all_dropped (x ∷ xs) (suc n) h = all_dropped xs n (omega (arith, h))
 
 module _ (e : Shape) (entries : List (Value e)) (flags : List Bool) (more : List Primitive) where
   pub none_copied : (before : Contents) (rest : List Primitive) → rest ≡ flat_map (items_of e) entries ++ more → AreCopied e entries flags more 0 before before rest
-  none_copied before rest there = record { after_is = ap (λ (xs : List Primitive). record before { items = xs }) (sym (append-nil before.items)); left_is = there }
+  none_copied before rest there = record { after_is = ap (λ (xs : List Primitive). record before { items = xs }) (sym (append-nil before.items)); rest_is = there }
 
   -- the next entry
   pub record NextEntry (n end : ℕ) (left : List Primitive) : Type 0 where
@@ -210,7 +210,7 @@ module _ (e : Shape) (entries : List (Value e)) (flags : List Bool) (more : List
   next_entry_is n end before mid left lt h walked le =
       let t = there_is entries n lt in
       let tail : List Primitive = flat_map (items_of e) (drop (suc n) entries) ++ more in
-      let whole : left ≡ items_of e t.0 ++ tail = h.left_is ∙ (ap (λ es. flat_map (items_of e) es ++ more) t.2 ∙ append_assoc (items_of e t.0) (flat_map (items_of e) (drop (suc n) entries)) more) in
+      let whole : left ≡ items_of e t.0 ++ tail = h.rest_is ∙ (ap (λ es. flat_map (items_of e) es ++ more) t.2 ∙ append_assoc (items_of e t.0) (flat_map (items_of e) (drop (suc n) entries)) more) in
       let s = skipped_one e t.0 tail left end whole walked le in
       record {
         entry = t.0;
@@ -235,13 +235,13 @@ module _ (e : Shape) (entries : List (Value e)) (flags : List Bool) (more : List
     after_is = is ∙ (ap (followed_by mid) next.front ∙ (ap (λ (b : Contents). followed_by b (items_of e next.entry)) h.after_is
         ∙ (followed_twice before (flat_map (items_of e) (flagged flags (take n entries))) (items_of e next.entry)
         ∙ ap (followed_by before) (sym (step_by n true flag next.entry next.there)))));
-    left_is = next.behind;
+    rest_is = next.behind;
   }
 
   pub one_left_out : (n end : ℕ) (before mid : Contents) (left : List Primitive) → AreCopied e entries flags more n before mid left → NextEntry n end left → flag_at flags n ≡ false → AreCopied e entries flags more (n + 1) before mid (drop end left)
   one_left_out n end before mid left h next flag = record {
     after_is = h.after_is ∙ ap (followed_by before) (sym (step_by n false flag next.entry next.there ∙ append-nil (flat_map (items_of e) (flagged flags (take n entries)))));
-    left_is = next.behind;
+    rest_is = next.behind;
   }
 
   -- all entries
@@ -250,7 +250,7 @@ module _ (e : Shape) (entries : List (Value e)) (flags : List Bool) (more : List
     h.after_is ∙ (ap (λ (b : Contents). followed_by b (flat_map (items_of e) (flagged flags (take n entries)))) counted
         ∙ (followed_twice before (first ∷ []) (flat_map (items_of e) (flagged flags (take n entries)))
         ∙ ap (λ es. followed_by before (first ∷ flat_map (items_of e) (flagged flags es))) (take_all n entries (omega (arith, long))))),
-    h.left_is ∙ ap (λ es. flat_map (items_of e) es ++ more) (all_dropped entries n (omega (arith, long))),
+    h.rest_is ∙ ap (λ es. flat_map (items_of e) es ++ more) (all_dropped entries n (omega (arith, long))),
   )
 
 pub array_copied : (e : Shape) (rest : List Primitive) (first : Primitive) (behind : List Primitive) (n counted : ℕ) (flags : List Bool) (before mid after : Contents) (left : List Primitive) → rest ≡ first ∷ behind → first ≡ Count (Some n) → counted ≡ flag_count flags n → mid ≡ followed_by before (Count (Some counted) ∷ []) → ((entries : List (Value e)) (more : List Primitive) → length entries ≡ n → behind ≡ flat_map (items_of e) entries ++ more → AreCopied e entries flags more n mid after left) → ArrayIsCopied e rest flags before after left

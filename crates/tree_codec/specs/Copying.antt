@@ -39,7 +39,7 @@ IsFlagged shape more result before after left = MatchResult result (λ new. IsCo
 -- the entries of the first `n` that have a true flag were copied
 pub record AreCopied (entry : Shape) (entries : List (Value entry)) (flags : List Bool) (more : List Primitive) (n : ℕ) (before after : Contents) (left : List Primitive) : Type 0 where
   pub after_is : after ≡ followed_by before (flat_map (items_of entry) (flagged flags (take n entries)))
-  pub left_is : left ≡ flat_map (items_of entry) (drop n entries) ++ more
+  pub rest_is : left ≡ flat_map (items_of entry) (drop n entries) ++ more
 
 -- The array that these items begin with was copied with those entries alone that have a true flag.
 abbrev pub ArrayIsCopied : (entry : Shape) → List Primitive → List Bool → Contents → Contents → List Primitive → Type 0

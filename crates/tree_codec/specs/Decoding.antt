@@ -1,5 +1,5 @@
 -- What the decoder has read.
-use Rattle.std.specs.Prelude.{◌≡◌, ℕ, List, length, Result, Ok, Err}
+use Rattle.std.specs.Prelude.{◌≡◌, ℕ, List, length}
 use Rattle.wire_types.specs.Reading.{unread}
 use Rattle.tree_spelling.specs.declared.primitive.Primitive.{Primitive}
 use Rattle.tree_spelling.specs.Primitives.{total_entries}
@@ -31,8 +31,3 @@ abbrev pub HasFault : Decoded → DecodeFault → Type 0
 HasFault outcome (NotSpelled at) = outcome ≡ BadAt at
 HasFault outcome (TooManyEntries at) = outcome ≡ TooManyAt at
 HasFault outcome NoMemory = Unit {0}
-
--- Bytes that are decoded to items are found good, and others have their fault.
-abbrev pub Answers : Decoded → Result (Unit {0}) DecodeFault → Type 0
-Answers outcome (Ok _) = (items : List Primitive) × (outcome ≡ AllItems items)
-Answers outcome (Err fault) = HasFault outcome fault

@@ -5,7 +5,7 @@ ghost use Rattle.tree_spelling.specs.Spelling.{IsSpelledBy};
 ghost use Rattle.tree_spelling.specs.Body.{IsReadFrom};
 ghost use Rattle.tree_spelling.specs.Decoded.{decoded, AllItems};
 ghost use Rattle.tree_codec.specs.Faults.{IsFaultOf, IsNoMemory};
-ghost use Rattle.tree_codec.specs.Decoding.{AreItemsOf, HasFault, Answers};
+ghost use Rattle.tree_codec.specs.Decoding.{AreItemsOf, HasFault};
 
 use crate::body::Body;
 use crate::decode_fault::DecodeFault;
@@ -71,30 +71,4 @@ fn read_items(
         items.push(found.keep(frame, reader.at())?)?;
     }
     Ok(items)
-}
-
-/// Whether the bytes spell a body of this message, all of them, and else why not, as [`decode`] tells it. No item is kept:
-/// memory is taken for no more than the levels of the arrays that an item lies in.
-pub fn check(
-    alloc: Global,
-    key: i16,
-    version: i16,
-    dir: Dir,
-    bytes: &[u8],
-) -> Result<(), DecodeFault>
-    // It is answered what the bytes are decoded to.
-    ensures { Answers (decoded (message_shape key version dir) bytes.now) result }
-{
-    let message = Message { key, version, dir };
-    let fields = message_fields(message);
-    check_fields(alloc, fields, bytes)
-}
-
-// The same for these fields.
-fn check_fields(alloc: Global, fields: &'static [Field], bytes: &[u8]) -> Result<(), DecodeFault>
-    ensures { Answers (decoded (nest fields.now 0) bytes.now) result }
-{
-    let mut reader = ItemReader::new(alloc, fields, bytes);
-    while reader.next()?.is_some() {}
-    Ok(())
 }

@@ -5,13 +5,11 @@
 //!         │                        │ ▲
 //!         ▼                        │ └── set, retain, Builder
 //!   DecodeFault at the bad place   └── get, items
-//!         ▲
-//!   bytes of a body ── check ──▶ nothing, where they spell one
 //! ```
 //!
 //! A [`Body`] keeps its items in reading order, one behind the other. Texts, and lists of bytes, are parts
-//! of the frame that they came in: a record batch is neither copied nor looked at by [`decode`], and [`check`]
-//! keeps no item at all. What a body is, and which bytes spell it, is said in `tree_spelling`.
+//! of the frame that they came in: a record batch is neither copied nor looked at by [`decode`]. What a body is, and
+//! which bytes spell it, is said in `tree_spelling`.
 //!
 //! The codec goes by an *agenda*: the fields that are still to come, by the levels of the arrays that the
 //! next one lies in. It knows no message but by the table of `kp_schema`, and no header.
@@ -38,7 +36,7 @@ mod walk;
 pub use body::Body;
 pub use builder::Builder;
 pub use decode_fault::DecodeFault;
-pub use decoder::{check, decode};
+pub use decoder::decode;
 pub use encode_fault::EncodeFault;
 pub use encoder::{append, encode};
 pub use tree_spelling::{EditFault, Item, Primitive};

@@ -5,6 +5,8 @@ use std::alloc::Global;
 use std::test::*;
 use wire_types::Writer;
 
+mod ample;
+
 // Bodies by key, version and direction, as the guide spells them.
 const BODIES: [(&'static str, i16, i16, Dir, &'static [u8]); 8] = [
     (
@@ -157,8 +159,6 @@ fn each_body_is_read_and_spelled_again(rt: HostRuntime) -> Result<(), Fail> {
         let spelled = encode(rt.alloc(), &body, bytes.len() as u64);
         let spelled = spelled.ok().ok_or(*name)?;
         assert_eq!(rt; (*name, spelled.as_slice()), (*name, *bytes));
-        let checked = check(rt.alloc(), *key, *version, *dir, *bytes);
-        assert_eq!(rt; (*name, checked), (*name, Ok(())));
     }
     Ok(())
 }
@@ -185,8 +185,6 @@ fn each_fault_has_its_place(rt: HostRuntime) -> Result<(), Fail> {
         let body = decode(rt.alloc(), *key, *version, *dir, Bytes::from_static(*bytes));
         let got = body.err().ok_or(*name)?;
         assert_eq!(rt; (*name, got), (*name, *fault));
-        let checked = check(rt.alloc(), *key, *version, *dir, *bytes);
-        assert_eq!(rt; (*name, checked), (*name, Err(*fault)));
     }
     Ok(())
 }
@@ -212,7 +210,7 @@ fn a_path_names_a_field(rt: HostRuntime) -> Result<(), Fail> {
     ];
     for (name, path, wanted) in &cases {
         let got = body.get(*path).ok().ok_or(*name)?;
-        assert!(rt; got == *wanted);
+        assert_eq!(rt; (*name, &got), (*name, wanted));
     }
     Ok(())
 }
@@ -231,10 +229,9 @@ fn a_field_is_changed_or_the_fault_told(rt: HostRuntime) -> Result<(), Fail> {
         body.set(&[1], Item::Entries(Some(3))),
         Err(EditFault::WrongKind)
     );
-    let got = body.get(&[0]).ok().ok_or("memory")?;
-    assert!(rt; got == Some(Item::Number(5)));
+    assert_eq!(rt; body.get(&[0]), Ok(Some(Item::Number(5))));
     let grown = encode(rt.alloc(), &body, 23);
-    assert!(rt; grown.err() == Some(EncodeFault::GrownPast { size: 24 }));
+    assert_eq!(rt; grown, Err(EncodeFault::GrownPast { size: 24 }));
     Ok(())
 }
 
@@ -254,7 +251,7 @@ fn a_body_is_built_item_by_item(rt: HostRuntime) -> Result<(), Fail> {
     let spelled = encode(rt.alloc(), &body, 10).ok().ok_or("memory")?;
     assert_eq!(rt; spelled.as_slice(), bytes);
     let early = Builder::new(rt.alloc(), key, version, dir).finish();
-    assert!(rt; early.err() == Some(EditFault::NoSuch));
+    assert_eq!(rt; early.err(), Some(EditFault::NoSuch));
     Ok(())
 }
 
@@ -324,8 +321,10 @@ fn entries_are_kept_by_their_flags(rt: HostRuntime) -> Result<(), Fail> {
         let mut body = body.ok().ok_or(*name)?;
         body.retain(*path, *keep).ok().ok_or(*name)?;
         let spelled = encode(rt.alloc(), &body, 64).ok().ok_or(*name)?;
-        assert_eq!(rt; spelled.as_slice(), *wanted);
-        assert_eq!(rt; body.size(), wanted.len() as u64);
+        assert_eq!(rt;
+            (*name, body.size(), spelled.as_slice()),
+            (*name, wanted.len() as u64, *wanted)
+        );
     }
     Ok(())
 }
@@ -342,9 +341,12 @@ fn only_an_array_loses_entries(rt: HostRuntime) -> Result<(), Fail> {
     ];
     let mut body = versions(rt.alloc())?;
     for (path, wanted) in &cases {
-        assert_eq!(rt; body.retain(*path, &[true]), Err(*wanted));
+        let got = body.retain(*path, &[true]);
         let spelled = encode(rt.alloc(), &body, 24).ok().ok_or("memory")?;
-        assert_eq!(rt; spelled.as_slice(), BODIES[5].4);
+        assert_eq!(rt;
+            (*path, got, spelled.as_slice()),
+            (*path, Err(*wanted), BODIES[5].4)
+        );
     }
     Ok(())
 }

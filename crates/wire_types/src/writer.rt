@@ -185,6 +185,13 @@ impl Writer {
         Ok(Bytes::from_vec(self.bytes)?)
     }
 
+    /// The bytes for one owner, who may change them. No byte is copied.
+    pub fn into_vec(self) -> Vec<u8>
+        ensures { result.items ≡ self }
+    {
+        self.bytes
+    }
+
     fn put_text(&mut self, text: &[u8]) -> Result<(), PutFault>
         ensures ok { OnOk result (self.new ≡ self.old ++ string (Some text.now)) }
         ensures too_long { (length : ℕ) → IsErrOf result (PutFault.TooLong length)

@@ -8,6 +8,7 @@ use filter_probes::{Grows, Growth};
 use kp_edge::NoMemory;
 use kp_schema::Dir;
 use serving::{Cause, Progress};
+use std::process::Abort;
 use tree_codec::{Body, Builder, Primitive};
 
 // 128 times as many are the greatest frame.
@@ -144,7 +145,7 @@ fn told_of_size(alloc: Global, size: u64, sends: bool) -> Result<Result<usize, C
         State::Done(Some(body))
     };
     match tell(envelope(alloc), state)? {
-        Progress::Sends(message, _) => Ok(Ok(message.behind.len())),
+        Progress::Sends(message, _) => Ok(Ok(message.room.len() - 12)),
         Progress::Done(Some(response)) => Ok(Ok(response.bytes.len())),
         Progress::Failed(cause) => Ok(Err(cause)),
         _ => Err(NoMemory),
@@ -214,16 +215,44 @@ fn growing(alloc: Global, growth: Growth, bytes: usize) -> Result<Core<Grows>, A
     Ok(Core::new(alloc, chain, 64))
 }
 
+// Of a frame: its length, as many bytes of its front, and its last byte.
+fn ends_of(frame: &Bytes, front: usize) -> Result<(usize, Bytes, Option<u8>), AllocError> {
+    let end = front.min(frame.len());
+    Ok((
+        frame.len(),
+        frame.slice(0..end)?,
+        frame.as_slice().last().copied(),
+    ))
+}
+
 // The frame has 134,217,728 bytes behind its size, begins so, and ends with the payload's last byte.
-fn is_greatest(got: &Got, begin: &[u8]) -> bool {
-    match got {
-        Told::Bytes(frame) => {
-            frame.len() == 134_217_732
-                && frame.as_slice().starts_with(begin)
-                && frame.as_slice().last() == Some(&b'z')
-        }
-        _ => false,
+fn expect_greatest(rt: &impl Abort, name: &str, got: &Got, begin: &[u8]) -> Result<(), Fail> {
+    let Told::Bytes(frame) = got else {
+        assert!(rt; false, "{name}: wanted a frame, got {got:?}");
+        return Ok(());
+    };
+    let (length, front, last) = ends_of(frame, begin.len())?;
+    assert_eq!(rt;
+        (length, front.as_slice(), last),
+        (134_217_732, begin, Some(b'z')),
+        "{name}"
+    );
+    Ok(())
+}
+
+// This core answers these lines as they say.
+fn expect_lines<F: Filter + Drop>(
+    rt: &impl Abort,
+    alloc: Global,
+    core: &mut Core<F>,
+    name: &str,
+    lines: &[(Line, Want)],
+) -> Result<(), Fail> {
+    if let Some((i, got)) = wrong_reply(alloc, core, lines)? {
+        let want = lines.get(i).map(|line| line.1);
+        assert!(rt; false, "{name}, line {i}: wanted {want:?}, got {got:?}");
     }
+    Ok(())
 }
 
 // How the greatest frame goes out.
@@ -301,22 +330,16 @@ const GREATEST: [Greatest; 4] = [
 ];
 
 // It goes out whole, and the lines before and behind it are answered as they say.
-fn goes_out_whole(alloc: Global, greatest: &Greatest) -> Result<bool, AllocError> {
-    let mut core = growing(alloc, greatest.growth, greatest.payload)?;
-    if wrong_reply(alloc, &mut core, greatest.before)?.is_some() {
-        return Ok(false);
-    }
-    let got = reply_to(alloc, &mut core, greatest.line)?;
-    if !is_greatest(&got, greatest.begin) {
-        return Ok(false);
-    }
-    Ok(wrong_reply(alloc, &mut core, greatest.behind)?.is_none())
-}
-
 #[test]
 fn the_greatest_frames_go_out_whole(rt: HostRuntime) -> Result<(), Fail> {
+    let alloc = rt.alloc();
     for greatest in &GREATEST {
-        assert!(rt; goes_out_whole(rt.alloc(), greatest)?, "{}", greatest.name);
+        let name = greatest.name;
+        let mut core = growing(alloc, greatest.growth, greatest.payload)?;
+        expect_lines(&rt, alloc, &mut core, name, greatest.before)?;
+        let got = reply_to(alloc, &mut core, greatest.line)?;
+        expect_greatest(&rt, name, &got, greatest.begin)?;
+        expect_lines(&rt, alloc, &mut core, name, greatest.behind)?;
     }
     Ok(())
 }
@@ -391,9 +414,53 @@ const GROWN_PAST: [GrownPast; 4] = [
 fn a_frame_past_the_greatest_ends_the_connection(rt: HostRuntime) -> Result<(), Fail> {
     for grown in &GROWN_PAST {
         let mut core = growing(rt.alloc(), grown.growth, grown.payload)?;
-        if let Some((i, _)) = wrong_reply(rt.alloc(), &mut core, grown.lines)? {
-            assert!(rt; false, "{}, line {i}", grown.name);
-        }
+        expect_lines(&rt, rt.alloc(), &mut core, grown.name, grown.lines)?;
+    }
+    Ok(())
+}
+
+// The lines behind an accepted verdict: the filter heeds its first byte, which is a v, as the error of a Heartbeat. After an
+// empty verdict the request goes on.
+const HEEDED: &[(Line, Want)] = &[
+    (Line::Send, Told::Nothing),
+    (Line::Emit, Told::Bytes(b"\0\0\0\x06\0\0\0\x07\0v")),
+    (Line::Emit, Told::Later),
+];
+
+const WENT_ON: &[(Line, Want)] = &[
+    (Line::Send, Told::Bytes(H0_SIZED)),
+    (Line::Broker(A0), Told::Fine),
+    (Line::Emit, Told::Bytes(A7_SIZED)),
+    (Line::Emit, Told::Later),
+];
+
+const ACCEPTED: [(usize, &'static str, &'static [(Line, Want)]); 4] = [
+    (0, "an empty verdict", WENT_ON),
+    (1, "a verdict of one byte", HEEDED),
+    (65_537, "a verdict of 65,537 bytes", HEEDED),
+    (1_048_577, "a verdict of 1,048,577 bytes", HEEDED),
+];
+
+#[test]
+fn verdicts_of_any_size_are_accepted(rt: HostRuntime) -> Result<(), Fail> {
+    let alloc = rt.alloc();
+    for (size, name, behind) in ACCEPTED {
+        let mut chain = Vec::new(alloc);
+        chain.push(Probe::heeding())?;
+        let mut core = Core::new(alloc, chain, 64);
+        let held = [
+            (Line::Client(H7), Told::Fine),
+            (Line::Pick, Told::Ticket(0, 0, b"k".as_slice())),
+        ];
+        expect_lines(&rt, alloc, &mut core, name, &held)?;
+        let verdict = Blob::from_vec(vec![in alloc; b'v'; size]?);
+        let told = core.complete(0, 0, verdict, &mut Steps::<Counted>::new());
+        let got = completed(alloc, told)?;
+        assert!(rt;
+            is_wanted(&got, Told::Fine),
+            "{name}: wanted Fine, got {got:?}"
+        );
+        expect_lines(&rt, alloc, &mut core, name, behind)?;
     }
     Ok(())
 }

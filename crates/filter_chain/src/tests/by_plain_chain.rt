@@ -119,7 +119,7 @@ fn is_outcome(got: &State<Waits>, want: Outcome) -> bool {
     match (got, want) {
         (
             State::Needs(_, Ask::Broker { request, main }),
-            Outcome::Asks {
+            Outcome::Sends {
                 message,
                 main: wanted,
             },

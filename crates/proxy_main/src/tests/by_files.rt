@@ -84,8 +84,8 @@ fn changed(alloc: Global, from: &str, to: &str) -> Result<String, Fail> {
 fn a_file_that_holds(rt: HostRuntime) -> Result<(), Fail> {
     for (word, want) in [("check", "ok 1\n"), ("plan", PLAN)] {
         let (status, text) = ran_over(rt.alloc(), &[word, "f"], ALPHA, &WELL)?;
-        assert_eq!(rt; text.as_str(), want);
-        assert_eq!(rt; status, Status::Done);
+        assert_eq!(rt; text.as_str(), want, "{word}");
+        assert_eq!(rt; status, Status::Done, "{word}");
     }
     Ok(())
 }
@@ -148,8 +148,8 @@ fn a_file_with_one_change(rt: HostRuntime) -> Result<(), Fail> {
     for (from, to, want, status) in CHANGES {
         let file = changed(rt.alloc(), from, to)?;
         let (found, text) = ran_over(rt.alloc(), &["check", "f"], file.as_str(), &WELL)?;
-        assert_eq!(rt; text.as_str(), *want);
-        assert_eq!(rt; found, *status, "{want}");
+        assert_eq!(rt; text.as_str(), *want, "{from} -> {to}");
+        assert_eq!(rt; found, *status, "{from} -> {to}");
     }
     for (file, want) in [
         ("", "refused missing version\n"),
@@ -157,8 +157,8 @@ fn a_file_with_one_change(rt: HostRuntime) -> Result<(), Fail> {
     ] {
         for word in ["check", "plan"] {
             let (found, text) = ran_over(rt.alloc(), &[word, "f"], file, &WELL)?;
-            assert_eq!(rt; text.as_str(), want);
-            assert_eq!(rt; found, Status::Refused);
+            assert_eq!(rt; text.as_str(), want, "{word} of {file:?}");
+            assert_eq!(rt; found, Status::Refused, "{word} of {file:?}");
         }
     }
     Ok(())
@@ -180,8 +180,13 @@ fn two_clusters_on_one_broker(rt: HostRuntime) -> Result<(), Fail> {
         file.push_str(BETA)?;
         file.push_str(second)?;
         let (status, text) = ran_over(rt.alloc(), &["check", "f"], file.as_str(), &WELL)?;
-        assert_eq!(rt; text.as_str(), want);
-        assert_eq!(rt; status == Status::Refused, want == clash);
+        assert_eq!(rt; text.as_str(), want, "{first:?} and {second:?}");
+        let wanted = if want == clash {
+            Status::Refused
+        } else {
+            Status::Done
+        };
+        assert_eq!(rt; status, wanted, "{first:?} and {second:?}");
     }
     Ok(())
 }
@@ -194,12 +199,12 @@ fn a_file_that_cannot_be_read(rt: HostRuntime) -> Result<(), Fail> {
     };
     for word in ["check", "plan"] {
         let (status, text) = ran_over(rt.alloc(), &[word, "f"], ALPHA, &failing)?;
-        assert_eq!(rt; text.as_str(), "");
-        assert_eq!(rt; status, Status::FilesFault);
+        assert_eq!(rt; text.as_str(), "", "{word}");
+        assert_eq!(rt; status, Status::FilesFault, "{word}");
         for name in ["g", "", "F", "ff", "check"] {
             let (status, text) = ran_over(rt.alloc(), &[word, name], ALPHA, &WELL)?;
-            assert_eq!(rt; text.as_str(), "", "{name}");
-            assert_eq!(rt; status, Status::FilesFault, "{name}");
+            assert_eq!(rt; text.as_str(), "", "{word} of {name}");
+            assert_eq!(rt; status, Status::FilesFault, "{word} of {name}");
         }
     }
     Ok(())
@@ -218,8 +223,8 @@ fn a_failed_write_leaves_a_front_of_the_answer(rt: HostRuntime) -> Result<(), Fa
     for (word, file, writes, want) in table {
         let failing = Failing { reads: &[], writes };
         let (status, text) = ran_over(rt.alloc(), &[word, "f"], file, &failing)?;
-        assert_eq!(rt; text.as_str(), want);
-        assert_eq!(rt; status, Status::OutputFault);
+        assert_eq!(rt; text.as_str(), want, "{word}, at writes {writes:?}");
+        assert_eq!(rt; status, Status::OutputFault, "{word}, at writes {writes:?}");
     }
     Ok(())
 }
@@ -246,9 +251,12 @@ fn words_that_name_no_file(rt: HostRuntime) -> Result<(), Fail> {
             wanted: Vec::new(rt.alloc()),
         };
         let (status, text) = ran_with(rt.alloc(), words, &mut files, &[])?;
-        assert!(rt; text.as_str().starts_with("usage: kproxy replay"));
-        assert_eq!(rt; status, Status::Usage);
-        assert_eq!(rt; files.wanted.len(), 0);
+        assert!(rt;
+            text.as_str().starts_with("usage: kproxy replay"),
+            "{words:?}: wanted the usage line, got {text:?}"
+        );
+        assert_eq!(rt; status, Status::Usage, "{words:?}");
+        assert_eq!(rt; files.wanted.len(), 0, "{words:?}");
     }
     Ok(())
 }
@@ -280,9 +288,13 @@ fn a_file_is_read_once(rt: HostRuntime) -> Result<(), Fail> {
             wanted: Vec::new(rt.alloc()),
         };
         let (status, text) = ran_with(rt.alloc(), &[word, "f"], &mut files, &[])?;
-        assert_eq!(rt; text.as_str(), want);
-        assert_eq!(rt; status, Status::Done);
-        assert_eq!(rt; files.wanted.as_slice(), [1_048_577usize].as_slice());
+        assert_eq!(rt; text.as_str(), want, "{word}");
+        assert_eq!(rt; status, Status::Done, "{word}");
+        assert_eq!(rt;
+            files.wanted.as_slice(),
+            [1_048_577usize].as_slice(),
+            "{word}"
+        );
     }
     Ok(())
 }
@@ -305,8 +317,8 @@ fn a_file_at_its_limit(rt: HostRuntime) -> Result<(), Fail> {
     ] {
         let file = padded(rt.alloc(), bytes)?;
         let (found, text) = ran_over(rt.alloc(), &["check", "f"], file.as_str(), &WELL)?;
-        assert_eq!(rt; text.as_str(), want);
-        assert_eq!(rt; found, status);
+        assert_eq!(rt; text.as_str(), want, "{bytes} bytes");
+        assert_eq!(rt; found, status, "{bytes} bytes");
     }
     Ok(())
 }

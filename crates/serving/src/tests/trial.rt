@@ -6,10 +6,10 @@
 //
 // Another code ends the list: the request is done, and its response is what it was given last. The fourth byte is `-`
 // where the request is silent. A frame that begins with `x` is no request. A body that begins with `!` can't be read.
-ghost use Rattle.std.specs.Prelude.{◌≡◌, ◌==◌, ◌≤◌, ◌-◌, ◌++◌, ◌∷◌, [], ℕ, List, length, take, get_or, IfOk, true, false, Option};
+ghost use Rattle.std.specs.Prelude.{◌≡◌, ◌==◌, ◌≤◌, ◌<◌, ◌-◌, ◌^◌, ◌++◌, ◌∷◌, [], ℕ, List, length, take, drop, get_or, IfOk, OnOk, true, false, Option};
 ghost use Rattle.conn_rules.specs.Meaning.{Meaning, ToBroker, Waits};
 ghost use Rattle.conn_rules.specs.State.{Outside};
-ghost use Rattle.serving.specs.Services.{Begins, IsProgress, IsDone, awaits_answer_to, outside_of, cause_function, progress_left};
+ghost use Rattle.serving.specs.Services.{Begins, IsProgress, IsDone, CountsOn, awaits_answer_to, outside_of, IsRead, progress_remaining};
 ghost use Rattle.serving.specs.Trials.{trial, trial_main, trial_done, last_given, outside_bytes};
 
 use crate::{Begun, Cause, Given, Message, Progress, Service, WholeFrame};
@@ -33,41 +33,50 @@ pub(crate) struct TrialRun {
 impl Service for Trial {
     type Run = TrialRun;
 
+    // The body itself.
+    type Answer = Bytes;
+
     ghost meaning = { λ _. trial };
 
     ghost stands = { λ _ run frame given. (run.frame ≡ frame) × (run.asks ≡ length given) };
 
-    ghost left = { λ _ run. 3 - run.asks };
+    ghost read_from = { λ _ answer. answer };
+
+    ghost remaining = { λ _ run. 3 - run.asks };
 
     fn begin<L>(&self, frame: &Bytes, steps: &mut Steps<L>) -> Result<Begun<TrialRun>, NoMemory> {
         if is_first(frame.as_slice(), b'x') {
-            return Ok(Begun::Refused(Cause::BadHead));
+            return Ok(Begun::NoRequest(Cause::BadHead));
         }
         let silent = is_silent(frame.as_slice());
         steps.tick();
         let progress = first_ask(self.alloc, frame)?;
-        Ok(Begun::Runs { silent, progress })
+        Ok(Begun::Request { silent, progress })
     }
 
     fn go_on<L>(
         &self,
         run: TrialRun,
-        given: Given,
+        given: Given<Bytes>,
         steps: &mut Steps<L>,
-    ) -> Result<Progress<TrialRun>, NoMemory> {
+    ) -> Result<Progress<TrialRun>, NoMemory>
+        ensures right { IfOk result (λ progress. (frame : List ℕ) (before : List Outside) → (run.frame ≡ frame) × (run.asks ≡ length before) → IsProgress trial (λ other own more. (other.frame ≡ own) × (other.asks ≡ length more)) frame (before ++ outside_of (λ (answer : List ℕ). answer) given ∷ []) progress) }
+        ensures counted { OnOk result (CountsOn trial (λ other own more. (other.frame ≡ own) × (other.asks ≡ length more)) run (outside_of (λ (answer : List ℕ). answer) given) steps.old steps.new) }
+        ensures fewer { IfOk result (λ progress. progress_remaining (λ other. 3 - other.asks) progress ≤ 3 - run.asks) }
+    {
         steps.tick();
         match given {
-            Given::Body(body) => ask_on(self.alloc, run, body.as_slice()),
+            Given::Answer(body) => ask_on(self.alloc, run, body.as_slice()),
             Given::NoResponse => ask_on(self.alloc, run, &[]),
             Given::Verdict(verdict) => ask_on(self.alloc, run, verdict.as_slice()),
         }
     }
 
-    fn unreadable(&self, _before: [u8; 4], body: &[u8]) -> Result<Option<Cause>, NoMemory> {
-        if is_first(body, b'!') {
-            Ok(Some(Cause::BrokerBadBody { key: 7, version: 2 }))
+    fn read(&self, _before: [u8; 4], body: Bytes) -> Result<Result<Bytes, Cause>, NoMemory> {
+        if is_first(body.as_slice(), b'!') {
+            Ok(Err(Cause::BrokerBadBody { key: 7, version: 2 }))
         } else {
-            Ok(None)
+            Ok(Ok(body))
         }
     }
 }
@@ -100,7 +109,7 @@ fn first_ask(alloc: Global, frame: &Bytes) -> Result<Progress<TrialRun>, NoMemor
 // What the run does with the next bytes that it is given.
 fn ask_on(alloc: Global, run: TrialRun, last: &[u8]) -> Result<Progress<TrialRun>, NoMemory>
     ensures right { IfOk result (λ progress. (frame : List ℕ) (before : List Outside) (x : Outside) → outside_bytes x ≡ last.now → (run.frame ≡ frame) × (run.asks ≡ length before) → IsProgress trial (λ other own more. (other.frame ≡ own) × (other.asks ≡ length more)) frame (before ++ x ∷ []) progress) }
-    ensures fewer { IfOk result (λ progress. progress_left (λ other. 3 - other.asks) progress ≤ 3 - run.asks) }
+    ensures fewer { IfOk result (λ progress. progress_remaining (λ other. 3 - other.asks) progress ≤ 3 - run.asks) }
 {
     let Some(asks) = run.asks.checked_add(1) else {
         return Err(NoMemory);
@@ -115,23 +124,23 @@ fn ask_on(alloc: Global, run: TrialRun, last: &[u8]) -> Result<Progress<TrialRun
 // What the run does with the last bytes that it was given.
 fn next_ask(alloc: Global, run: TrialRun, last: &[u8]) -> Result<Progress<TrialRun>, NoMemory>
     ensures right { IfOk result (λ progress. (given : List Outside) → length given ≡ run.asks → last_given given ≡ last.now → IsProgress trial (λ other frame more. (other.frame ≡ frame) × (other.asks ≡ length more)) run.frame given progress) }
-    ensures fewer { IfOk result (λ progress. progress_left (λ other. 3 - other.asks) progress ≤ 4 - run.asks) }
+    ensures fewer { IfOk result (λ progress. progress_remaining (λ other. 3 - other.asks) progress ≤ 4 - run.asks) }
 {
     if run.asks >= 3 {
         return done(alloc, &run.frame, last);
     }
     let code = run.frame.as_slice()[run.asks];
     match code {
-        b'm' => main_send(run, true),
-        b'q' => main_send(run, false),
-        b'a' => Ok(Progress::Sends(aside(&run.frame)?, run)),
+        b'm' => main_send(alloc, run, true),
+        b'q' => main_send(alloc, run, false),
+        b'a' => Ok(Progress::Sends(aside(alloc, &run.frame)?, run)),
         b'h' => {
             let key = Blob::copy(alloc, run.frame.as_slice().split_at(8).1)?;
             Ok(Progress::Holds(key, run))
         }
         b'v' => {
             if is_first(last, 1) {
-                main_send(run, true)
+                main_send(alloc, run, true)
             } else {
                 Ok(Progress::Failed(Cause::FilterShut { filter: 3, code: 9 }))
             }
@@ -148,25 +157,43 @@ fn before(frame: &[u8]) -> [u8; 4]
     [frame[0], frame[1], frame[2], frame[3]]
 }
 
-fn main_send(run: TrialRun, responds: bool) -> Result<Progress<TrialRun>, NoMemory>
+// The room of a message that says these bytes itself.
+fn room(alloc: Global, behind: &[u8]) -> Result<Vec<u8>, NoMemory>
+    requires { length behind.now < 2 ^ 63 }
+    ensures { IfOk result (λ room. (12 ≤ length room.items) × (drop 12 room.items ≡ behind.now)) }
+{
+    let mut room = Vec::with_capacity(alloc, 12 + behind.len())?;
+    room.extend_from_slice(&[0; 12])?;
+    room.extend_from_slice(behind)?;
+    Ok(room)
+}
+
+fn main_send(alloc: Global, run: TrialRun, responds: bool) -> Result<Progress<TrialRun>, NoMemory>
     ensures { IfOk result (λ progress. (message : Message) × (progress ≡ Progress.Sends message run) × (awaits_answer_to message ≡ trial_main run.frame responds)) }
 {
-    let message = Message {
-        before: before(run.frame.as_slice()),
-        behind: run.frame.slice(8..run.frame.len())?,
-        main: true,
-        responds,
-    };
+    let message = main_message(alloc, &run.frame, responds)?;
     Ok(Progress::Sends(message, run))
 }
 
-fn aside(frame: &Bytes) -> Result<Message, NoMemory>
+fn main_message(alloc: Global, frame: &Bytes, responds: bool) -> Result<Message, NoMemory>
+    requires { 8 ≤ length frame.now }
+    ensures { IfOk result (λ message. awaits_answer_to message ≡ trial_main frame.now responds) }
+{
+    Ok(Message {
+        before: before(frame.as_slice()),
+        room: room(alloc, frame.as_slice().split_at(8).1)?,
+        main: true,
+        responds,
+    })
+}
+
+fn aside(alloc: Global, frame: &Bytes) -> Result<Message, NoMemory>
     requires { 8 ≤ length frame.now }
     ensures { IfOk result (λ message. awaits_answer_to message ≡ Waits (ToBroker (take 4 frame.now) [] false true)) }
 {
     Ok(Message {
         before: before(frame.as_slice()),
-        behind: frame.slice(8..8)?,
+        room: room(alloc, &[])?,
         main: false,
         responds: true,
     })

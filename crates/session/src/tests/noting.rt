@@ -7,9 +7,6 @@ use conn_rules::{AnswerFault, CompleteFault, Connection, Emit, Fault, Look, Take
 use kp_edge::{Blob, Steps};
 use std::alloc::{AllocError, Global};
 
-// A longer frame is noted by its length.
-pub(super) const LONG: usize = 64;
-
 // The last byte of a frame says what becomes of it: `+` is accepted, `-` comes too late, `=` finds no room until an emit
 // step has made some, and for `!` there is no memory. A verdict is accepted for request 0, request 1 waits for none, and for
 // each other there is no memory.
@@ -39,8 +36,8 @@ impl Noting {
     fn note_frame(&mut self, call: &str, frame: &Bytes) -> u8 {
         let bytes = frame.as_slice();
         let text = match std::str::from_utf8(bytes) {
-            Ok(text) if bytes.len() <= LONG => format!(in self.alloc; "{call} {text}; "),
-            _ => format!(in self.alloc; "{call} {} bytes; ", bytes.len()),
+            Ok(text) => format!(in self.alloc; "{call} {text}; "),
+            Err(_) => format!(in self.alloc; "{call} {} other bytes; ", bytes.len()),
         };
         self.note(text);
         bytes.last().copied().unwrap_or(0)
@@ -81,7 +78,16 @@ impl Connection for Noting {
         verdict: Blob,
         _steps: &mut Steps<L>,
     ) -> Result<(), CompleteFault> {
-        self.note(format!(in self.alloc; "complete {request} {index} with {}; ", verdict.len()));
+        let bytes = verdict.as_slice();
+        self.note(match std::str::from_utf8(bytes) {
+            Ok(text) => format!(in self.alloc; "complete {request} {index} with {text}; "),
+            Err(_) => {
+                format!(in self.alloc;
+                    "complete {request} {index} with {} other bytes; ",
+                    bytes.len()
+                )
+            }
+        });
         match request {
             0 => Ok(()),
             1 => Err(CompleteFault::NotWaiting(verdict)),

@@ -1,3 +1,4 @@
+use super::returned;
 use crate::{GroupLive, Listing};
 use bytes::Bytes;
 use filter_core::{Filter, Input, Move};
@@ -86,7 +87,8 @@ fn forwarded(alloc: Global, key: i16, version: i16) -> Option<Listing> {
     let request = decode(alloc, key, version, Dir::Request, Bytes::from_static(b""));
     match GroupLive.start(alloc, request.ok()?) {
         Ok(Move::Forward(message, pending)) => {
-            if message.key() != key {
+            let bytes = encode(alloc, &message, 64).ok()?;
+            if (message.key(), message.version(), bytes.len()) != (key, version, 0) {
                 return None;
             }
             Some(pending)
@@ -138,13 +140,11 @@ fn dead_groups_are_left_out(rt: HostRuntime) -> Result<(), Fail> {
 
 #[test]
 fn group_live_leaves_other_responses(rt: HostRuntime) -> Result<(), Fail> {
-    let bytes: &'static [u8] = b"\0\0\0\0";
+    let bytes: &'static [u8] = b"\0\0\0\x02\0\x01a\0\0\xff\xff\0\x03";
     let pending = forwarded(rt.alloc(), 18, 0).ok_or("forwarded")?;
     let came = response(rt.alloc(), 20, 0, bytes).ok_or("response")?;
-    let back = match GroupLive.resume(rt.alloc(), pending, came) {
-        Ok(Move::Return(Some(back))) => Some(back.key()),
-        _other => None,
-    };
-    assert_eq!(rt; back, Some(20));
+    let moved = GroupLive.resume(rt.alloc(), pending, came);
+    let back = returned(rt.alloc(), moved).ok_or("it goes back")?;
+    assert_eq!(rt; (back.0, back.1, back.2.as_slice()), (20, 0, bytes));
     Ok(())
 }

@@ -4,7 +4,8 @@ use Rattle.std.proofs.lemmas.Int.{to_z-of_z}
 use Rattle.kp_schema.specs.declared.dir.Dir.TheVariants as dir
 use Rattle.tree_spelling.specs.Shape.{message_shape}
 use Rattle.tree_spelling.specs.Decoded.{decoded}
-use Rattle.conn_core.specs.Requests.{request_body, body_cause}
+use Rattle.framing.specs.Heads.{request_body}
+use Rattle.conn_core.specs.Requests.{body_cause}
 use Rattle.conn_core.proofs.Heads.{body_place, not_told, cause_of_body, body_read}
 use Rattle.conn_core.proofs.opening.open.Goals as goal
 

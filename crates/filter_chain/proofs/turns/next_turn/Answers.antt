@@ -9,7 +9,7 @@ returns g c =
     let f = c.in-Some-get.filter.now in
     let place : c.len.result ≡ k = omega (arith, c.len.ensures) in
     let there : slice_get c.args.chain.now k ≡ Some f = subst (λ i. slice_get c.args.chain.now i ≡ Some f) place (slice_get_read c.args.chain.now (length c.args.chain.now) c.len.result f refl c.in-Some-get.ensures.lookup.3.0 (c.in-Some-get.ensures.lookup.3.1 f)) in
-    let more : c.in-Some.last.left ≡ suc c.in-Some-checked_sub.left = omega (arith, c.in-Some-checked_sub.ensures) in
+    let more : c.in-Some.last.unused ≡ suc c.in-Some-checked_sub.unused = omega (arith, c.in-Some-checked_sub.ensures) in
     ok_both c.act.result _ _ _
-    (λ nx e1 e2. next_leads g.F.Filter.turn g.F.Filter.stands c.args.chain.now c.args.suspended.now.items c.pop.new.self.items c.act.new.suspended.items c.in-Some.last f c.args.input c.in-Some-checked_sub.left c.in_ok-made.made nx c.args.steps.now c.tick.new.self c.in-Some.ensures.items there more c.in_ok-made.ensures e1 e2 c.tick.ensures)
+    (λ nx e1 e2. next_leads g.F.Filter.turn g.F.Filter.stands c.args.chain.now c.args.suspended.now.items c.pop.new.self.items c.act.new.suspended.items c.in-Some.last f c.args.input c.in-Some-checked_sub.unused c.in_ok-made.made nx c.args.steps.now c.tick.new.self c.in-Some.ensures.items there more c.in_ok-made.ensures e1 e2 c.tick.ensures)
     c.act.ensures.next c.act.ensures.suspended

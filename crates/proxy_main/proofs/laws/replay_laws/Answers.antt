@@ -1,3 +1,5 @@
+use Rattle.any_filter.specs.Chains.{cluster_chain}
+use Rattle.proxy_main.specs.DefaultPlan.{cluster_meaning}
 use Rattle.proxy_main.proofs.LawfulPlans.{chain_lawful}
 use Rattle.proxy_main.proofs.OwnReplies.{replay_responses, replay_sends}
 use Rattle.proxy_main.proofs.laws.replay_laws.Goals as goal
@@ -7,3 +9,7 @@ returns-clause-own_responses c plan valid = replay_responses plan (chain_lawful 
 
 pub returns-clause-message_sends : goal.returns-clause-message_sends
 returns-clause-message_sends c plan valid = replay_sends plan (chain_lawful plan (c.addresses_law.ensures.lawful plan valid))
+
+pub returns-clause-all_passed : goal.returns-clause-all_passed
+returns-clause-all_passed c plan lines text a why over is =
+    c.told_law.ensures.all_passed (cluster_meaning plan) a.history a.last.state why (c.own_ends_law.ensures (cluster_chain plan) plan.in_flight) a.is_history over is

@@ -9,7 +9,7 @@ use Rattle.proxy_main.proofs.replay.Replay.read_all.Goals as goal
 
 pub loop-self-init : goal.loop-self-init
 loop-self-init g c = record {
-  reads = λ M script is running. record { read = []; rest = script; parts = refl; left_is = is; allowed_is = refl; running = running };
+  reads = λ M script is running. record { read = []; rest = script; parts = refl; unread_is = is; allowed_is = refl; running = running };
   so_far = λ script is. none_consumed script (g.I.Source.coming c.args.input.now) is;
   input = refl;
   output = refl;

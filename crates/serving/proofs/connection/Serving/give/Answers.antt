@@ -30,9 +30,9 @@ returns-then-rests_at-clause-gives g c =
       small = c.first.ensures.small;
       mid = mid;
       in_flight = omega (arith, c.in-Some.ensures, c.first.ensures.first);
-      gives = subst (λ n. GivesAt (g.S.Service.meaning c.args.self.now.service) (g.S.Service.stands c.args.self.now.service) n (outside_of c.args.given) f mid) place c.in_ok-give.ensures.gives;
+      gives = subst (λ n. GivesAt (g.S.Service.meaning c.args.self.now.service) (g.S.Service.stands c.args.self.now.service) n (outside_of (g.S.Service.read_from c.args.self.now.service) c.args.given) f mid) place c.in_ok-give.ensures.gives;
       between = c.give.new.steps;
-      counts = subst (λ n. CountsAt (g.S.Service.meaning c.args.self.now.service) (g.S.Service.stands c.args.self.now.service) n (outside_of c.args.given) f c.args.steps.now c.give.new.steps) place c.in_ok-give.ensures.counted;
+      counts = subst (λ n. CountsAt (g.S.Service.meaning c.args.self.now.service) (g.S.Service.stands c.args.self.now.service) n (outside_of (g.S.Service.read_from c.args.self.now.service) c.args.given) f c.args.steps.now c.give.new.steps) place c.in_ok-give.ensures.counted;
       settles = if_true ((mid ≡ mid) × (c.give.new.steps ≡ c.give.new.steps)) ((limit : ℕ) → FlightSettles (limited limit (g.S.Service.meaning c.args.self.now.service)) (g.S.Service.stands c.args.self.now.service) mid mid c.give.new.steps c.give.new.steps) _ rest (refl, refl);
     }
 
@@ -46,8 +46,8 @@ returns-clause-gives g c =
       small = c.first.ensures.small;
       mid = mid;
       in_flight = omega (arith, c.in-Some.ensures, c.first.ensures.first);
-      gives = subst (λ n. GivesAt (g.S.Service.meaning c.args.self.now.service) (g.S.Service.stands c.args.self.now.service) n (outside_of c.args.given) f mid) place c.in_ok-give.ensures.gives;
+      gives = subst (λ n. GivesAt (g.S.Service.meaning c.args.self.now.service) (g.S.Service.stands c.args.self.now.service) n (outside_of (g.S.Service.read_from c.args.self.now.service) c.args.given) f mid) place c.in_ok-give.ensures.gives;
       between = c.give.new.steps;
-      counts = subst (λ n. CountsAt (g.S.Service.meaning c.args.self.now.service) (g.S.Service.stands c.args.self.now.service) n (outside_of c.args.given) f c.args.steps.now c.give.new.steps) place c.in_ok-give.ensures.counted;
+      counts = subst (λ n. CountsAt (g.S.Service.meaning c.args.self.now.service) (g.S.Service.stands c.args.self.now.service) n (outside_of (g.S.Service.read_from c.args.self.now.service) c.args.given) f c.args.steps.now c.give.new.steps) place c.in_ok-give.ensures.counted;
       settles = if_false ((c.settle.new.flight ≡ mid) × (c.settle.new.steps ≡ c.give.new.steps)) ((limit : ℕ) → FlightSettles (limited limit (g.S.Service.meaning c.args.self.now.service)) (g.S.Service.stands c.args.self.now.service) mid c.settle.new.flight c.give.new.steps c.settle.new.steps) _ rest (λ limit. from_first (limited limit (g.S.Service.meaning c.args.self.now.service)) (g.S.Service.stands c.args.self.now.service) mid c.settle.new.flight c.give.new.steps c.settle.new.steps (settles limit));
     }) c.settle.ensures.settles
