@@ -1,5 +1,6 @@
 """Runs `kproxy replay` with ample memory on scripts of odd and great sizes, and compares all that it writes with what
-`replay_model.py` says of them. A body that answers want of memory past some size is proved, and is caught here.
+`replay_model.py`, or over a cluster of a configuration `ample_filters.py`, says of them. A body that answers want of
+memory past some size is proved, and is caught here.
 
 Use `scripts/check_ample`, which calls this. The limit of a whole script is tried by `bench/limits.sh`.
 """
@@ -9,132 +10,22 @@ import random
 import subprocess
 import sys
 import tempfile
-from binascii import hexlify
+from concurrent.futures import ProcessPoolExecutor
+from multiprocessing import get_context
 from pathlib import Path
 
+from ample_filters import filter_cases, great_filter_cases
+from ample_frames import API_VERSIONS_2, API_VERSIONS_3, HEARTBEAT, HEARTBEAT_ANSWER, LEAST_ANSWER, LEAST_HEARTBEAT
+from ample_frames import LEAST_SYNC_GROUP, LETTERS, LIST_GROUPS, METADATA_1, answer, ended, exchange, filler, own_id, piece
+from ample_frames import pieces, produce, request, served, signed, text, unserved_request, versions
 from message_bodies import MOST_ENTRIES
 from replay_model import BROKER_SIZES, CLIENT_SIZES, HELD, IN_FLIGHT, LONGEST_LINE, LONGEST_VERDICT, MOST_OUT, replayed, sized
 from running import Cases, program, shown, status_text
 
 SECONDS = 60  # that a run may take
+GREAT_AT_ONCE = 2  # cases that take some gigabytes each
 KIB, MIB = 1 << 10, 1 << 20
 CHUNK = 64 * KIB
-
-# Heads without their correlation ids: API key and version.
-HEARTBEAT = bytes.fromhex("000c 0000")
-SYNC_GROUP = bytes.fromhex("000e 0000")
-LIST_GROUPS = bytes.fromhex("0010 0000")
-METADATA_1 = bytes.fromhex("0003 0001")
-API_VERSIONS_2 = bytes.fromhex("0012 0002")
-API_VERSIONS_3 = bytes.fromhex("0012 0003")
-PRODUCE_3 = bytes.fromhex("0000 0003")
-PRODUCE_8 = bytes.fromhex("0000 0008")
-# The sizes of the least requests of the first two, with a null client id and empty texts, and of their least answers.
-LEAST_HEARTBEAT, HEARTBEAT_ANSWER = 18, 6
-LEAST_SYNC_GROUP, LEAST_ANSWER = 28, 10
-
-PATTERN = bytes(range(251))
-LETTERS = bytes(range(ord("a"), ord("z") + 1))
-
-
-def signed(value, width=4):
-    return value.to_bytes(width, "big", signed=True)
-
-
-# Frames, as "The Messages" of Kafka's protocol guide spells them. Neighbours differ at each place of a body.
-
-
-def filler(length, seed, of=PATTERN):
-    start = seed % len(of)
-    return (of * ((start + length) // len(of) + 1))[start : start + length]
-
-
-def text(length, seed):
-    """A STRING."""
-    return signed(length, 2) + filler(length, seed, LETTERS)
-
-
-def blob(length, seed):
-    """BYTES."""
-    return signed(length) + filler(length, seed)
-
-
-def own_id(index):
-    return ((index * 40_503 + 77_777) % (1 << 32)).to_bytes(4, "big")
-
-
-def request(index, size):
-    """Request number `index`, with its size in front: SyncGroup, or where it is too short Heartbeat or ListGroups."""
-    null, empty = signed(-1, 2), signed(0, 2)
-    if size < LEAST_HEARTBEAT:
-        return sized(LIST_GROUPS + own_id(index) + text(size - 10, index))
-    if size < LEAST_SYNC_GROUP:
-        return sized(HEARTBEAT + own_id(index) + null + empty + signed(index) + text(size - LEAST_HEARTBEAT, index))
-    group = empty + signed(index) + empty
-    assignments = signed(1) + empty + blob(size - LEAST_SYNC_GROUP, index)
-    return sized(SYNC_GROUP + own_id(index) + null + group + assignments)
-
-
-def answer(index, size):
-    """The answer to message number `index`, with its size in front: Heartbeat's, or SyncGroup's where it is longer.
-    ListGroups is answered as SyncGroup is with no bytes."""
-    body = signed(27, 2) + (blob(size - LEAST_ANSWER, index + 100) if size >= LEAST_ANSWER else b"")
-    return sized(index.to_bytes(4, "big") + body)
-
-
-def produce(index, acks, size, name=None):
-    """A Produce request with one batch of so many bytes, and a transactional id where it is named."""
-    transactional_id = signed(-1, 2) if name is None else text(name, index)
-    partition = signed(index) + blob(size, index)
-    body = transactional_id + signed(acks, 2) + signed(index) + signed(1) + text(5, index) + signed(1) + partition
-    return sized(PRODUCE_3 + own_id(index) + signed(-1, 2) + body)
-
-
-def versions(count, index):
-    """An answer to ApiVersions with so many entries: known and unknown APIs, with ranges that meet ours or don't."""
-    entries = b"".join(
-        signed(key % 40, 2) + signed(key % 7, 2) + signed((key * 5) % 13, 2) for key in range(index, index + count)
-    )
-    return sized(index.to_bytes(4, "big") + signed(0, 2) + signed(count) + entries + signed(9))
-
-
-def unserved_request(index, head, size=20):
-    """Bytes whose head names an API and version that isn't served."""
-    return sized(head + own_id(index) + filler(size - 8, index))
-
-
-# Lines, without their byte 10.
-
-
-def pieces(side, data, most):
-    for at in range(0, len(data), most):
-        yield side.encode() + b" " + hexlify(data[at : at + most])
-
-
-def piece(side, data):
-    return next(pieces(side, data, len(data)))
-
-
-def exchange(index, size, answer_size, most):
-    """One request and its answer, in pieces of `most` bytes at most."""
-    yield from pieces("client", request(index, size), most)
-    yield b"send"
-    yield from pieces("broker", answer(index, answer_size), most)
-    yield b"emit"
-
-
-def served(first, count, answer_size=HEARTBEAT_ANSWER):
-    """Requests that were handed on before: each is sent, answered and emitted."""
-    for index in range(first, first + count):
-        yield b"send"
-        yield piece("broker", answer(index, answer_size))
-        yield b"emit"
-
-
-def ended():
-    yield b"client-end"
-    yield b"emit"
-
 
 # Scripts.
 
@@ -297,45 +188,6 @@ def addressed(size, before):
     yield from [b"emit"] * (before + 2)
 
 
-DENYING = """version = 1
-[[cluster]]
-name = "lab"
-listen = "127.0.0.1"
-advertise = "127.0.0.1"
-port = 19092
-first_node = 0
-bootstrap = "127.0.0.1:9092"
-nodes = ["127.0.0.1:9092"]
-filters = ["topic-deny:{name}"]
-"""
-
-
-def denied(partitions, length):
-    """A Produce request (version 8) of one topic with a name of this length, without records in so many partitions, and the
-    response to it where the topic is denied, which makes 36 bytes of each partition's eight. Also the name."""
-    name = text(length, 0)
-    indexes = [signed(index) for index in range(partitions)]
-    parts = b"".join(index + signed(-1) for index in indexes)
-    asked = signed(-1, 2) + signed(1, 2) + signed(100) + signed(1) + name + signed(partitions) + parts
-    # TOPIC_AUTHORIZATION_FAILED (29); base_offset, log_append_time_ms and log_start_offset; no errors of records, no message
-    refusal = signed(29, 2) + signed(-1, 8) * 3 + signed(0) + signed(-1, 2)
-    told = signed(1) + name + signed(partitions) + b"".join(index + refusal for index in indexes) + signed(0)
-    return sized(PRODUCE_8 + own_id(0) + signed(-1, 2) + asked), sized(own_id(0) + told), name[2:].decode()
-
-
-def denied_complaint(path, length):
-    """What is wrong with the answer to 3,728,269 denied partitions. With 26 bytes in the topic's name it has the greatest size."""
-    asked, told, name = denied(3_728_269, length)
-    size = len(told) - 4
-    last = b"to-client " + hexlify(told) if size <= MOST_OUT else f"over grown-past request=0 size={size}".encode()
-    with file_in_memory("script") as script, tempfile.TemporaryDirectory() as folder:
-        config = Path(folder, "denying.toml")
-        config.write_text(DENYING.format(name=name))
-        for line in (piece("client", asked), b"emit"):
-            script.write(line + b"\n")
-        return complaint_of([path, "replay", str(config), "lab"], script, [b"ok", last], 0)
-
-
 def longest_line():
     """A line of 268,435,455 bytes, the most that whole digits give, with the greatest frame and more."""
     most = (LONGEST_LINE - len("client ")) // 2
@@ -457,73 +309,76 @@ ONE_KIND = [
 GREATEST, LEAST = 2**31 - 1, -(2**31)
 
 
+def body_cases():
+    yield "as many topics as may be read", topics, MOST_ENTRIES, MOST_ENTRIES
+    yield "1,000,003 topics, one of them missing", topics, 1_000_003, 1_000_002
+    yield "one topic more than may be read", topics, MOST_ENTRIES + 1, 1_000_003
+    yield "more topics than any body has", topics, GREATEST, 0
+    for size in (LEAST_SYNC_GROUP, 3_000_003, 32 * MIB + 1):
+        yield f"a request of {size:,} bytes without its last", short_request, size
+        yield f"an answer of {size:,} bytes without its last", short_answer, size
+
+
 def ordinary_cases():
-    yield "an exchange of 3 MB in pieces of 1 MiB", three_megabytes()
-    yield "200,000 frames in one piece", frames_in_one_piece(200_000)
-    yield "200,000 ApiVersions of version 3 in one piece", unknown_versions_in_one_piece(200_000)
-    yield "200,000 frames behind a cut in one piece", frames_behind_a_cut(200_000)
-    yield "16 answers and 200,000 frames more in one piece", answers_in_one_piece(200_000, 20, HEARTBEAT_ANSWER)
-    yield "16 answers of 1 MiB in one piece", answers_in_one_piece(0, 40, MIB)
+    yield "an exchange of 3 MB in pieces of 1 MiB", three_megabytes
+    yield "200,000 frames in one piece", frames_in_one_piece, 200_000
+    yield "200,000 ApiVersions of version 3 in one piece", unknown_versions_in_one_piece, 200_000
+    yield "200,000 frames behind a cut in one piece", frames_behind_a_cut, 200_000
+    yield "16 answers and 200,000 frames more in one piece", answers_in_one_piece, 200_000, 20, HEARTBEAT_ANSWER
+    yield "16 answers of 1 MiB in one piece", answers_in_one_piece, 0, 40, MIB
     for line in ONE_KIND:
-        yield f"10,000 lines `{line}` on a new connection", one_line_again(line.encode(), 10_000)
-        yield f"10,000 lines `{line}` with 16 in flight", lines_of_one_kind(line.encode(), 10_000)
-    yield "209,715,200 bytes held", held()
-    yield "a frame of 16 MiB that waits for room", waiting_for_room(16 * MIB)
-    yield "the least sizes", least_sizes()
-    yield "sizes around powers of 2, whole", sizes_around(range(5, 23), 32 * MIB)
-    yield "sizes around powers of 2, in 64 KiB", sizes_around(range(5, 22), 64 * KIB)
-    yield "a frame past 16 MiB", piece_sizes([32 * MIB], 16 * MIB + 1)
-    yield "one byte a piece", piece_sizes([1], 70_001)
-    yield "pieces of odd sizes", piece_sizes([251, 4_095, 32_767, 32_769, 65_535, 65_537, 1_000_003], 1_234_567)
-    yield "the greatest response", greatest_response()
-    for size in (MOST_OUT - 9, MOST_OUT - 8, MOST_OUT):
-        yield f"a response that grows from {size:,} bytes", addressed(size, 0)
-    yield "a response that grows by one byte too many, behind two others", addressed(MOST_OUT - 8, 2)
-    yield "the longest line", longest_line()
-    yield "the longest verdict", longest_verdict(LONGEST_VERDICT)
-    yield "a verdict past its limit", longest_verdict(LONGEST_VERDICT + 1)
-    yield "sizes drawn at random", drawn(1, 60)
-    yield "100,000 requests without a response in one piece", silent_ones(100_000, 20)
-    yield "160 requests of 1 MiB without a response", silent_ones(160, MIB)
-    yield "3,000 requests, a third of them without a response", silent_among_others(3_000)
-    yield "versions that are narrowed", narrowed_versions([0, 1, 2, 3, 40, 41, 1_000, 100_003])
+        yield f"10,000 lines `{line}` on a new connection", one_line_again, line.encode(), 10_000
+        yield f"10,000 lines `{line}` with 16 in flight", lines_of_one_kind, line.encode(), 10_000
+    yield "a frame of 16 MiB that waits for room", waiting_for_room, 16 * MIB
+    yield "the least sizes", least_sizes
+    yield "sizes around powers of 2, whole", sizes_around, range(5, 23), 32 * MIB
+    yield "sizes around powers of 2, in 64 KiB", sizes_around, range(5, 22), 64 * KIB
+    yield "a frame past 16 MiB", piece_sizes, [32 * MIB], 16 * MIB + 1
+    yield "one byte a piece", piece_sizes, [1], 70_001
+    yield "pieces of odd sizes", piece_sizes, [251, 4_095, 32_767, 32_769, 65_535, 65_537, 1_000_003], 1_234_567
+    yield "the longest verdict", longest_verdict, LONGEST_VERDICT
+    yield "a verdict past its limit", longest_verdict, LONGEST_VERDICT + 1
+    yield "sizes drawn at random", drawn, 1, 60
+    yield "100,000 requests without a response in one piece", silent_ones, 100_000, 20
+    yield "3,000 requests, a third of them without a response", silent_among_others, 3_000
+    yield "versions that are narrowed", narrowed_versions, [0, 1, 2, 3, 40, 41, 1_000, 100_003]
 
 
 def end_cases():
     for size in (LEAST, -1, 0, CLIENT_SIZES[0] - 1, CLIENT_SIZES[-1] + 1, GREATEST):
-        yield f"a client's size of {size:,} behind 2,000,003 bytes", bad_size("client", size, 2_000_003)
+        yield f"a client's size of {size:,} behind 2,000,003 bytes", bad_size, "client", size, 2_000_003
     for size in (LEAST, -1, 0, BROKER_SIZES[0] - 1, BROKER_SIZES[-1] + 1, GREATEST):
-        yield f"a broker's size of {size:,} behind 1,000,003 bytes", bad_size("broker", size, 1_000_003)
+        yield f"a broker's size of {size:,} behind 1,000,003 bytes", bad_size, "broker", size, 1_000_003
     for rest in (1, 2, 3, 4, 5, 65_539, MIB + 4, 20_000_003):
-        yield f"the client's stream torn at {rest:,} bytes", torn("client", rest)
-        yield f"the broker's stream torn at {rest:,} bytes", torn("broker", rest)
+        yield f"the client's stream torn at {rest:,} bytes", torn, "client", rest
+        yield f"the broker's stream torn at {rest:,} bytes", torn, "broker", rest
     for key, version in ((-32_768, -32_768), (32_767, 32_767), (12, 4), (12, -1), (-1, 0)):
-        yield f"key {key} in version {version}", unserved(key, version)
+        yield f"key {key} in version {version}", unserved, key, version
     for found in (LEAST, -1, 1, GREATEST):
-        yield f"an answer with id {found} for 0", wrong_id(found)
-        yield f"an answer with id {found} for nothing", unasked(found)
+        yield f"an answer with id {found} for 0", wrong_id, found
+        yield f"an answer with id {found} for nothing", unasked, found
     for waiting in (0, 1, IN_FLIGHT):
-        yield f"the broker's end with {waiting} waiting", broker_ends(waiting)
+        yield f"the broker's end with {waiting} waiting", broker_ends, waiting
     for length, there in ((-2, 0), (-1, 0), (0, 0), (1, 0), (32_767, 32_766), (32_767, 32_767), (-32_768, 32_767)):
-        yield f"a client id of {length:,} in {there:,} bytes", client_id(length, there)
+        yield f"a client id of {length:,} in {there:,} bytes", client_id, length, there
     late = 66_000
-    yield "an unserved request number 66,000", late_request(late, unserved_request(late, signed(99, 2) + signed(3, 2)))
-    yield "a bad head of request number 66,000", late_request(late, sized(HEARTBEAT + own_id(late)))
-    yield "a bad size behind 66,000 frames", late_request(late, signed(7))
-    yield "a mismatch at message number 66,000", late_answer(late, late - 1)
+    yield "an unserved request number 66,000", late_request, late, unserved_request(late, signed(99, 2) + signed(3, 2))
+    yield "a bad head of request number 66,000", late_request, late, sized(HEARTBEAT + own_id(late))
+    yield "a bad size behind 66,000 frames", late_request, late, signed(7)
+    yield "a mismatch at message number 66,000", late_answer, late, late - 1
 
 
-def body_cases():
-    yield "as many topics as may be read", topics(MOST_ENTRIES, MOST_ENTRIES)
-    yield "1,000,003 topics, one of them missing", topics(1_000_003, 1_000_002)
-    yield "one topic more than may be read", topics(MOST_ENTRIES + 1, 1_000_003)
-    yield "more topics than any body has", topics(GREATEST, 0)
-    for size in (LEAST_SYNC_GROUP, 3_000_003, 32 * MIB + 1):
-        yield f"a request of {size:,} bytes without its last", short_request(size)
-        yield f"an answer of {size:,} bytes without its last", short_answer(size)
+def great_cases():
+    yield "209,715,200 bytes held", held
+    yield "the greatest response", greatest_response
+    for size in (MOST_OUT - 9, MOST_OUT - 8, MOST_OUT):
+        yield f"a response that grows from {size:,} bytes", addressed, size, 0
+    yield "a response that grows by one byte too many, behind two others", addressed, MOST_OUT - 8, 2
+    yield "the longest line", longest_line
+    yield "160 requests of 1 MiB without a response", silent_ones, 160, MIB
 
 
-# What is written, held beside the model.
+# What is written, held beside what is wanted.
 
 
 def copied(lines, file):
@@ -574,20 +429,45 @@ def complaint_of(command, script, wanted, status):
     return differs
 
 
-def complaint(path, lines):
+def replay_complaint(path, make, *words):
+    """Of a script, by the model."""
     with file_in_memory("script") as script:
-        *wanted, status = replayed(copied(lines, script))
+        *wanted, status = replayed(copied(make(*words), script))
         return complaint_of([path, "replay"], script, wanted, status)
 
 
+def cluster_complaint(path, make, *words):
+    """Of a script over a cluster, with the answers that stand beside its lines."""
+    cluster, play = make(*words)
+    with file_in_memory("script") as script, tempfile.TemporaryDirectory() as folder:
+        config = Path(folder, "cluster.toml")
+        config.write_text(cluster.config())
+        for line in play.lines:
+            script.write(line + b"\n")
+        return complaint_of([path, "replay", str(config), "lab"], script, play.wanted, 0)
+
+
 def main():
+    """The cases run side by side, and are told in their order."""
     path = program(is_wrapped=False)
     cases = Cases("check_ample")
-    for make in (ordinary_cases, end_cases, body_cases):
-        for name, lines in make():
-            cases.note(name, complaint(path, lines))
-    for length in (26, 27):
-        cases.note(f"3,728,269 partitions of a denied topic with {length} bytes in its name", denied_complaint(path, length))
+    context = get_context("spawn")
+    others = max(1, len(os.sched_getaffinity(0)) - GREAT_AT_ONCE)
+    with ProcessPoolExecutor(others, context) as few, ProcessPoolExecutor(GREAT_AT_ONCE, context) as great:
+        groups = [
+            (few, replay_complaint, (body_cases, ordinary_cases, end_cases)),
+            (few, cluster_complaint, (filter_cases,)),
+            (great, replay_complaint, (great_cases,)),
+            (great, cluster_complaint, (great_filter_cases,)),
+        ]
+        futures = [
+            (name, pool.submit(complaint, path, *case))
+            for pool, complaint, makers in groups
+            for make in makers
+            for name, *case in make()
+        ]
+        for name, future in futures:
+            cases.note(name, future.result())
     return cases.status()
 
 

@@ -12,7 +12,7 @@ from typing import NamedTuple
 TOP = Path(__file__).resolve().parent.parent
 # Bare verbs and participles: a name is a noun, or a claim that is understood without its definition.
 OLD_WORDS = set(
-    "does asks says say goes gave met meets hands standing stationed stood runs running".split()
+    "does asks says say goes gave met meets hands standing stationed stood runs running left replies".split()
 )
 
 DEFINITION = re.compile(r"(?:\w+ )?pub (?:(record|data|mod) )?([^\s:(]+)")
