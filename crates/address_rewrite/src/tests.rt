@@ -13,11 +13,11 @@ fn address(alloc: Global, port: u16) -> Option<Address> {
     Some(Address { host, port })
 }
 
-fn plan(alloc: Global, first_node: i32, nodes: Vec<Address>) -> Option<ClusterPlan> {
+fn plan(alloc: Global, host: &[u8], first_node: i32, nodes: Vec<Address>) -> Option<ClusterPlan> {
     Some(ClusterPlan {
         name: Blob::copy(alloc, b"alpha").ok()?,
         listen: Blob::copy(alloc, b"127.0.0.1").ok()?,
-        advertise: Blob::copy(alloc, b"p").ok()?,
+        advertise: Blob::copy(alloc, host).ok()?,
         port: 19_092,
         first_node,
         bootstrap: address(alloc, 9_092)?,
@@ -44,21 +44,21 @@ fn filter_of(alloc: Global, plan: ClusterPlan) -> Option<Addresses> {
     }
 }
 
-// Nodes 5 and 6, at ports 19093 and 19094.
+// Nodes 5 and 6, at ports 19093 and 19094 of host p.
 fn filter(alloc: Global) -> Option<Addresses> {
     let mut nodes = Vec::new(alloc);
     nodes.push(address(alloc, 9_093)?).ok()?;
     nodes.push(address(alloc, 9_094)?).ok()?;
-    filter_of(alloc, plan(alloc, 5, nodes)?)
+    filter_of(alloc, plan(alloc, b"p", 5, nodes)?)
 }
 
-// Nodes 0 to 63, from port 19093 on.
-fn greatest_filter(alloc: Global) -> Option<Addresses> {
+// Nodes 0 to 63, from port 19093 of this host on.
+fn greatest_filter(alloc: Global, host: &[u8]) -> Option<Addresses> {
     let mut nodes = Vec::new(alloc);
     for _ in 0..64 {
         nodes.push(address(alloc, 9_093)?).ok()?;
     }
-    filter_of(alloc, plan(alloc, 0, nodes)?)
+    filter_of(alloc, plan(alloc, host, 0, nodes)?)
 }
 
 fn joined(alloc: Global, first: &[u8], second: &[u8], third: &[u8]) -> Option<Bytes> {
@@ -79,7 +79,7 @@ fn given_back(
 ) -> Option<Result<Bytes, i32>> {
     let came = decode(alloc, key, version, Dir::Response, broker).ok()?;
     match filter.resume(alloc, Addressing, Input::Response(came)) {
-        Ok(Move::Return(Some(back))) => Some(Ok(encode(alloc, &back, 4_096).ok()?)),
+        Ok(Move::Return(Some(back))) => Some(Ok(encode(alloc, &back, 65_536).ok()?)),
         Ok(Move::Shut(Reason::NodeOutOfRange(node))) => Some(Err(node)),
         _other => None,
     }
@@ -356,12 +356,14 @@ fn a_node_without_a_port_shuts(rt: HostRuntime) -> Result<(), Fail> {
 }
 
 // 64 brokers, each with this host and these ports from the first on, behind no controller and before no topic.
-fn many(alloc: Global, host: u8, port: i32) -> Option<Bytes> {
+fn many(alloc: Global, host: &[u8], port: i32) -> Option<Bytes> {
+    let length = u16::try_from(host.len()).ok()?;
     let mut bytes = Vec::new(alloc);
     bytes.extend_from_slice(&[0, 0, 0, 64]).ok()?;
     for node in 0..64i32 {
         bytes.extend_from_slice(&node.to_be_bytes()).ok()?;
-        bytes.extend_from_slice(&[0, 1, host]).ok()?;
+        bytes.extend_from_slice(&length.to_be_bytes()).ok()?;
+        bytes.extend_from_slice(host).ok()?;
         bytes
             .extend_from_slice(&port.wrapping_add(node).to_be_bytes())
             .ok()?;
@@ -373,14 +375,22 @@ fn many(alloc: Global, host: u8, port: i32) -> Option<Bytes> {
     Bytes::from_vec(bytes).ok()
 }
 
+// A host has 1 to 255 bytes.
 #[test]
 fn as_many_brokers_as_a_plan_can_have(rt: HostRuntime) -> Result<(), Fail> {
-    let filter = greatest_filter(rt.alloc()).ok_or("memory")?;
-    let came = many(rt.alloc(), b'k', 9_000).ok_or("memory")?;
-    let wanted = many(rt.alloc(), b'p', 19_093).ok_or("memory")?;
-    let back = given_back(rt.alloc(), &filter, 3, 1, came).ok_or("memory")?;
-    let back = back.ok().ok_or("shut")?;
-    assert_eq!(rt; back.as_slice(), wanted.as_slice());
+    for length in [1usize, 254, 255] {
+        let host = vec![in rt.alloc(); b'p'; length]?;
+        let filter = greatest_filter(rt.alloc(), host.as_slice()).ok_or("memory")?;
+        let came = many(rt.alloc(), b"k", 9_000).ok_or("memory")?;
+        let wanted = many(rt.alloc(), host.as_slice(), 19_093).ok_or("memory")?;
+        let back = given_back(rt.alloc(), &filter, 3, 1, came).ok_or("memory")?;
+        let back = back.ok().ok_or("shut")?;
+        assert_eq!(rt;
+            back.as_slice(),
+            wanted.as_slice(),
+            "a host of {length} bytes"
+        );
+    }
     Ok(())
 }
 
