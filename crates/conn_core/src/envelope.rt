@@ -43,7 +43,7 @@ impl Envelope {
     {
         Ok(Message {
             before: side_by_side(body.key().to_be_bytes(), body.version().to_be_bytes()),
-            room: spell_message(self.alloc, &self.client_id, body, size).map_err(|_| NoMemory)?,
+            draft: spell_message(self.alloc, &self.client_id, body, size).map_err(|_| NoMemory)?,
             main,
             responds: !has_acks_zero(body),
         })
@@ -62,7 +62,7 @@ impl Envelope {
     }
 }
 
-// Room for the size and the head of the broker's frame, whose size is `size`, and what stands behind its correlation id.
+// The broker's frame, whose size is `size`, behind a head of zeros: what stands behind its correlation id.
 fn spell_message(
     alloc: Global,
     client_id: &Bytes,
@@ -70,14 +70,14 @@ fn spell_message(
     size: u64,
 ) -> Result<Vec<u8>, wire_types::NoMemory>
     requires small { size ≤ most_out }
-    ensures roomy { IfOk result (λ room. 12 ≤ length room.items) }
-    ensures behind { IfOk result (λ room. drop 12 room.items ≡ client_id.now ++ spelling body.now.items) }
+    ensures head { IfOk result (λ draft. 12 ≤ length draft.items) }
+    ensures behind { IfOk result (λ draft. drop 12 draft.items ≡ client_id.now ++ spelling body.now.items) }
 {
-    let mut room = Writer::with_capacity(alloc, size as usize + 4)?;
-    room.put_all(&[0; 12])?;
-    room.put_all(client_id.as_slice())?;
-    append(&mut room, body)?;
-    Ok(room.into_vec())
+    let mut draft = Writer::with_capacity(alloc, size as usize + 4)?;
+    draft.put_all(&[0; 12])?;
+    draft.put_all(client_id.as_slice())?;
+    append(&mut draft, body)?;
+    Ok(draft.into_vec())
 }
 
 // The whole frame, behind its size.

@@ -32,9 +32,9 @@ IsBodyRead why read_from body (Err cause) = why ≡ Some (why_of cause)
 abbrev pub IsRead : {A : Type 0} → Meaning → (A → List ℕ) → List ℕ → List ℕ → Result A Cause → Type 0
 IsRead M read_from before body read = IsBodyRead (M.unreadable before body) read_from body read
 
--- what stands behind the correlation id of a message: it lies behind the room for a frame's size and head
+-- what stands behind the correlation id of a message: it lies in the draft behind twelve bytes for the head
 abbrev pub behind_id : Message → List ℕ
-behind_id m = drop 12 m.room.items
+behind_id m = drop 12 m.draft.items
 
 -- a request waits for this message to be sent
 abbrev pub awaits_answer_to : Message → Status

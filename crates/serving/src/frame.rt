@@ -37,20 +37,20 @@ impl WholeFrame {
         Ok(WholeFrame { bytes })
     }
 
-    /// The frame of these two parts and of what stands behind the first twelve bytes of `room`. It takes the place of the
-    /// room, so nothing behind those twelve is copied. A size that INT32 can't hold is answered as want of memory.
-    pub(crate) fn in_room(
+    /// The frame of these two parts and of what stands behind the first twelve bytes of `draft`. It takes the place of
+    /// the draft, so nothing behind those twelve is copied. A size that INT32 can't hold is answered as want of memory.
+    pub(crate) fn of_draft(
         before: [u8; 4],
         id: [u8; 4],
-        room: Vec<u8>,
+        draft: Vec<u8>,
     ) -> Result<WholeFrame, NoMemory>
-        requires { 12 ≤ length room.items }
-        ensures { IfOk result (λ frame. frame.bytes ≡ sized (before ++ id ++ drop 12 room.items)) }
+        requires { 12 ≤ length draft.items }
+        ensures { IfOk result (λ frame. frame.bytes ≡ sized (before ++ id ++ drop 12 draft.items)) }
     {
-        let Ok(size) = i32::try_from(room.len() - 4) else {
+        let Ok(size) = i32::try_from(draft.len() - 4) else {
             return Err(NoMemory);
         };
-        let mut frame = room;
+        let mut frame = draft;
         put_head(
             frame.as_mut_slice(),
             &head_of(size.to_be_bytes(), before, id),

@@ -24,7 +24,7 @@ fn list(sends: &mut Sends, request: u64, message: Message) -> Result<(), NoMemor
 {
     let id = sends.next_id().to_be_bytes();
     let before = message.before;
-    let frame = WholeFrame::in_room(before, id, message.room)?;
+    let frame = WholeFrame::of_draft(before, id, message.draft)?;
     let owner = Owner {
         request,
         main: message.main,

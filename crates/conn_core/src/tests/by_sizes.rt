@@ -145,7 +145,7 @@ fn told_of_size(alloc: Global, size: u64, sends: bool) -> Result<Result<usize, C
         State::Done(Some(body))
     };
     match tell(envelope(alloc), state)? {
-        Progress::Sends(message, _) => Ok(Ok(message.room.len() - 12)),
+        Progress::Sends(message, _) => Ok(Ok(message.draft.len() - 12)),
         Progress::Done(Some(response)) => Ok(Ok(response.bytes.len())),
         Progress::Failed(cause) => Ok(Err(cause)),
         _ => Err(NoMemory),

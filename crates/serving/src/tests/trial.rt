@@ -157,15 +157,15 @@ fn before(frame: &[u8]) -> [u8; 4]
     [frame[0], frame[1], frame[2], frame[3]]
 }
 
-// The room of a message that says these bytes itself.
-fn room(alloc: Global, behind: &[u8]) -> Result<Vec<u8>, NoMemory>
+// The draft of a message that says these bytes itself.
+fn draft(alloc: Global, behind: &[u8]) -> Result<Vec<u8>, NoMemory>
     requires { length behind.now < 2 ^ 63 }
-    ensures { IfOk result (λ room. (12 ≤ length room.items) × (drop 12 room.items ≡ behind.now)) }
+    ensures { IfOk result (λ draft. (12 ≤ length draft.items) × (drop 12 draft.items ≡ behind.now)) }
 {
-    let mut room = Vec::with_capacity(alloc, 12 + behind.len())?;
-    room.extend_from_slice(&[0; 12])?;
-    room.extend_from_slice(behind)?;
-    Ok(room)
+    let mut draft = Vec::with_capacity(alloc, 12 + behind.len())?;
+    draft.extend_from_slice(&[0; 12])?;
+    draft.extend_from_slice(behind)?;
+    Ok(draft)
 }
 
 fn main_send(alloc: Global, run: TrialRun, responds: bool) -> Result<Progress<TrialRun>, NoMemory>
@@ -181,7 +181,7 @@ fn main_message(alloc: Global, frame: &Bytes, responds: bool) -> Result<Message,
 {
     Ok(Message {
         before: before(frame.as_slice()),
-        room: room(alloc, frame.as_slice().split_at(8).1)?,
+        draft: draft(alloc, frame.as_slice().split_at(8).1)?,
         main: true,
         responds,
     })
@@ -193,7 +193,7 @@ fn aside(alloc: Global, frame: &Bytes) -> Result<Message, NoMemory>
 {
     Ok(Message {
         before: before(frame.as_slice()),
-        room: room(alloc, &[])?,
+        draft: draft(alloc, &[])?,
         main: false,
         responds: true,
     })
