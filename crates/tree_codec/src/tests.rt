@@ -340,13 +340,10 @@ fn only_an_array_loses_entries(rt: HostRuntime) -> Result<(), Fail> {
         (&[1, 3, 0], EditFault::NoSuch),
     ];
     let mut body = versions(rt.alloc())?;
-    for (path, wanted) in &cases {
-        let got = body.retain(*path, &[true]);
+    for (row, (path, wanted)) in cases.iter().enumerate() {
+        assert_eq!(rt; body.retain(*path, &[true]), Err(*wanted), "row {row}");
         let spelled = encode(rt.alloc(), &body, 24).ok().ok_or("memory")?;
-        assert_eq!(rt;
-            (*path, got, spelled.as_slice()),
-            (*path, Err(*wanted), BODIES[5].4)
-        );
+        assert_eq!(rt; spelled.as_slice(), BODIES[5].4, "row {row}");
     }
     Ok(())
 }
