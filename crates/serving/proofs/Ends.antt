@@ -1,16 +1,15 @@
 -- The ends of the streams, and what failed outside.
-use Rattle.std.proofs.Common.{◌≡◌, ◌∙◌, ap, refl, sym, subst, ℕ, ◌+◌, ◌≤◌, Bool, true, false, is_some, if◌then◌else◌, List, length, Option, Some, None, arith}
+use Rattle.std.proofs.Common.{◌≡◌, ◌∙◌, ap, refl, sym, ℕ, ◌≤◌, Bool, true, false, is_some, if◌then◌else◌, List, length, Option, Some, None, arith}
 use Rattle.kp_edge.specs.declared.end.End.{End}
 use Rattle.kp_edge.specs.declared.end.End.TheVariants as end
 use Rattle.conn_rules.specs.declared.causes.Causes.{Causes}
 use Rattle.conn_rules.specs.declared.event.Event.{Event}
-use Rattle.conn_rules.specs.declared.event.Event.TheVariants as event
 use Rattle.conn_rules.specs.declared.event.Fault.{Fault}
 use Rattle.conn_rules.specs.declared.event.Fault.TheVariants as fault
 use Rattle.conn_rules.specs.declared.event.Reply.TheVariants as reply
-use Rattle.conn_rules.specs.Causes.{below, with_cut, with_death, with_halt, client_ended, broker_ended, after_client_end}
+use Rattle.conn_rules.specs.Causes.{below, with_cut, with_death, client_ended, broker_ended, after_client_end}
 use Rattle.conn_rules.specs.Meaning.{Meaning}
-use Rattle.conn_rules.specs.State.{Outside, State, dead, halted, cut_at, waiting}
+use Rattle.conn_rules.specs.State.{Outside, State, dead, cut_at, waiting}
 use Rattle.conn_rules.specs.Steps.{client_end, faulted, noted, open_hold, answer_to, StepOrNoMemory}
 use Rattle.correlation.specs.WindowOf.{window_of}
 use Rattle.serving.specs.declared.flight.Flight.{Flight}

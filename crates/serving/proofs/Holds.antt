@@ -1,10 +1,9 @@
 -- Which request waits for a hold.
-use Rattle.std.proofs.Common.{◌≡◌, ◌≢◌, ◌∙◌, ap, refl, sym, subst, ℕ, zero, suc, ◌+◌, ◌-◌, ◌≤◌, ◌<◌, ◌==◌, nat_lt, Bool, true, false, not, ◌&&◌, ◌||◌, is_some, if◌then◌else◌, List, [], ◌∷◌, length, Option, Some, None, option_map, slice_get, arith, ◌⊎◌, inl, inr}
-use Rattle.std.proofs.lemmas.Bool.{ltb-true, ltb-false, le-ltb, lt-ltb}
-use Rattle.std.proofs.lemmas.Option.{slice_get_past, slice_get_within}
-use Rattle.kp_edge.specs.declared.end.End.{End}
+use Rattle.std.proofs.Common.{◌≡◌, ◌∙◌, ap, refl, sym, subst, ℕ, zero, suc, ◌+◌, ◌-◌, ◌≤◌, ◌<◌, nat_lt, Bool, true, false, not, ◌&&◌, is_some, if◌then◌else◌, List, [], ◌∷◌, length, Option, Some, None, option_map, slice_get, arith}
+use Rattle.std.proofs.lemmas.Bool.{ltb-true, ltb-false}
+use Rattle.std.proofs.lemmas.Option.{slice_get_past}
 use Rattle.conn_rules.specs.Causes.{below}
-use Rattle.conn_rules.specs.Meaning.{Meaning, ToBroker, Hold, Status, Waits, Done, Fails}
+use Rattle.conn_rules.specs.Meaning.{Meaning}
 use Rattle.conn_rules.specs.State.{Outside, Request, State}
 use Rattle.conn_rules.specs.Steps.{hold_of, hold_in, open_hold}
 use Rattle.serving.specs.declared.flight.Flight.{Flight}
@@ -14,7 +13,6 @@ use Rattle.serving.specs.declared.slot.Stage.TheVariants as stage
 use Rattle.serving.specs.Slots.{has_hold, IsStage, Keeps, IsPassed}
 use Rattle.serving.specs.Flights.{first_of, slot_hold, hold_at}
 use Rattle.serving.specs.Listing.{Carries}
-use Rattle.serving.proofs.Places.{is_there}
 
 abbrev pub number_of : Option (ℕ × List ℕ) → Option ℕ
 number_of hold = option_map (λ h. h.0) hold

@@ -16,3 +16,4 @@ pub mod Passing
 pub mod Freed
 pub mod Resting
 pub mod Picking
+pub mod Choices

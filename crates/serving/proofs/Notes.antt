@@ -1,5 +1,5 @@
 -- What becomes of a connection whose causes change, and nothing else.
-use Rattle.std.proofs.Common.{◌≡◌, ◌∙◌, ap, refl, sym, subst, ℕ, suc, ◌+◌, ◌≤◌, Bool, true, false, ◌&&◌, if◌then◌else◌, List, [], ◌∷◌, length, Option, Some, None, slice_get, arith, inl, inr}
+use Rattle.std.proofs.Common.{◌≡◌, ◌∙◌, ap, refl, sym, subst, ℕ, ◌+◌, ◌≤◌, true, List, length, Option, Some, None, slice_get, arith, inl, inr}
 use Rattle.kp_edge.specs.declared.end.End.{End}
 use Rattle.kp_edge.specs.declared.end.End.TheVariants as end
 use Rattle.conn_rules.specs.declared.causes.Causes.{Causes}
@@ -8,7 +8,7 @@ use Rattle.conn_rules.specs.declared.event.Reply.{Reply}
 use Rattle.conn_rules.specs.Causes.{first_cause, below, with_cut, with_death, with_halt, with_told}
 use Rattle.conn_rules.specs.Meaning.{Meaning}
 use Rattle.conn_rules.specs.Settling.{next_act}
-use Rattle.conn_rules.specs.State.{Outside, Request, ListedSend, State, halted}
+use Rattle.conn_rules.specs.State.{Outside, State, halted}
 use Rattle.conn_rules.specs.Steps.{answer_to, memory_answer, TakesMemory, StepOrNoMemory}
 use Rattle.conn_rules.proofs.Sweep.{sweeps}
 use Rattle.conn_rules.proofs.Resting.{rest_from, low_before_cut}

@@ -1,7 +1,7 @@
 -- How many responses are still owed to a request, read off the window of sends.
-use Rattle.std.proofs.Common.{◌≡◌, ◌∙◌, ap, refl, sym, ℕ, zero, suc, ◌+◌, ◌==◌, Bool, true, false, cond, if◌then◌else◌, List, [], ◌∷◌, ◌++◌, drop, Option, Some, None, slice_get, Ok, arith}
+use Rattle.std.proofs.Common.{◌≡◌, ◌∙◌, ap, sym, ℕ, ◌+◌, ◌==◌, Bool, true, false, cond, if◌then◌else◌, List, [], ◌∷◌, ◌++◌, drop, Some, slice_get, Ok, arith}
 use Rattle.std.specs.Prelude.{count_by}
-use Rattle.conn_rules.specs.State.{ListedSend, State, responding}
+use Rattle.conn_rules.specs.State.{State, responding}
 use Rattle.correlation.specs.declared.owner.Owner.{Owner}
 use Rattle.correlation.specs.declared.owner.Numbered.{Numbered}
 use Rattle.correlation.specs.Windows.{Window, with_listed, with_answered}

@@ -1,24 +1,23 @@
 -- The oldest requests are passed, and the next send is taken.
-use Rattle.std.proofs.Common.{◌≡◌, ◌≢◌, ◌∙◌, ap, refl, sym, subst, ℕ, zero, suc, ◌+◌, ◌-◌, ◌≤◌, ◌<◌, nat_lt, ◌==◌, Bool, true, false, ◌&&◌, ◌||◌, is_some, if◌then◌else◌, List, [], ◌∷◌, length, take, drop, Option, Some, None, slice_get, arith, add-one, ◌⊎◌, inl, inr}
+use Rattle.std.proofs.Common.{◌≡◌, ◌∙◌, ap, refl, sym, subst, ℕ, zero, suc, ◌+◌, ◌-◌, ◌≤◌, ◌<◌, nat_lt, ◌==◌, Bool, true, false, ◌&&◌, is_some, if◌then◌else◌, List, [], ◌∷◌, length, take, drop, Option, Some, None, slice_get, arith, add-one}
 use Rattle.std.specs.Prelude.{sum_by}
 use Rattle.std.proofs.lemmas.List.Sums.{sum_by-cons}
 use Rattle.std.proofs.lemmas.Bool.{ltb-true, ltb-false, lt-ltb, eqb-false}
 use Rattle.std.proofs.lemmas.Option.{slice_get_within, slice_get_past}
 use Rattle.kp_edge.specs.declared.end.End.{End}
 use Rattle.conn_rules.specs.declared.event.Event.TheVariants as event
-use Rattle.conn_rules.specs.declared.event.Reply.{Reply}
 use Rattle.conn_rules.specs.declared.event.Reply.TheVariants as reply
 use Rattle.conn_rules.specs.declared.event.Emit.TheVariants as emit
 use Rattle.conn_rules.specs.Causes.{below, cut_cause, with_told}
-use Rattle.conn_rules.specs.Meaning.{Meaning, Status, Waits, Done, Fails}
-use Rattle.conn_rules.specs.State.{Outside, Request, ListedSend, State, held, in_flight, upstream_frame}
-use Rattle.conn_rules.specs.Steps.{response_of, response_in, silent_run, silent_passed, over_with, over_or, respond_or, emit_next, told_again, emit_step, sent_next, send_step, answer_to, StepOrNoMemory}
+use Rattle.conn_rules.specs.Meaning.{Meaning, Done}
+use Rattle.conn_rules.specs.State.{Outside, Request, ListedSend, State, held}
+use Rattle.conn_rules.specs.Steps.{response_of, response_in, silent_run, silent_passed, over_or, respond_or, emit_next, told_again, sent_next, answer_to, StepOrNoMemory}
 use Rattle.conn_rules.specs.Settling.{next_act}
 use Rattle.conn_rules.specs.Sweep.{free_from}
 use Rattle.conn_rules.proofs.Lists.{found_first}
 use Rattle.correlation.specs.Windows.{first_frame, with_taken}
 use Rattle.correlation.specs.WindowOf.{window_of}
-use Rattle.correlation.specs.IsWindow.{IsWindow, WindowLaws, one_taken}
+use Rattle.correlation.specs.IsWindow.{IsWindow, one_taken}
 use Rattle.correlation.proofs.WindowLaws.{laws}
 use Rattle.serving.specs.declared.frame.WholeFrame.{WholeFrame}
 use Rattle.serving.specs.declared.flight.Flight.{Flight}
@@ -29,11 +28,10 @@ use Rattle.serving.specs.Services.{IsDone}
 use Rattle.serving.specs.Flights.{first_of, OnlySlots, SameFlight, PassesSlot, is_passable, IsStuck, PassesReady}
 use Rattle.serving.specs.Slots.{is_ready, awaits_response, one_if, IsStage, Keeps, IsPassed}
 use Rattle.serving.specs.Listing.{SameFor, IsCutBehind, Carries}
-use Rattle.serving.specs.Stands.{Stands, HavePassed, PassesAll, told_flight}
+use Rattle.serving.specs.Stands.{Stands, HavePassed, told_flight}
 use Rattle.serving.proofs.Places.{dropped}
 use Rattle.serving.proofs.Same.{same_refl, keeps_same, passed_same, untouched_same}
 use Rattle.serving.proofs.Notes.{steps, stands_told, carries_same}
-use Rattle.serving.proofs.Takes.{none_of}
 
 and3_first : (a b c : Bool) → (a && b && c) ≡ true → a ≡ true
 and3_first true b c h = refl

@@ -1,6 +1,5 @@
 -- A hold is handed out.
-use Rattle.std.proofs.Common.{◌≡◌, ◌≢◌, ◌∙◌, ap, refl, sym, subst, ℕ, zero, suc, ◌+◌, ◌-◌, ◌≤◌, ◌<◌, ◌^◌, nat_lt, ◌==◌, Bool, true, false, not, ◌&&◌, ◌||◌, is_some, if◌then◌else◌, List, [], ◌∷◌, ◌++◌, length, drop, Option, Some, None, slice_get, slice_set, arith, length-set, ◌⊎◌, inl, inr}
-use Rattle.std.specs.List.{list_any}
+use Rattle.std.proofs.Common.{◌≡◌, ◌≢◌, ◌∙◌, ap, refl, sym, subst, ℕ, zero, suc, ◌+◌, ◌-◌, ◌≤◌, ◌<◌, ◌^◌, nat_lt, ◌==◌, Bool, true, false, ◌&&◌, ◌||◌, is_some, if◌then◌else◌, List, [], ◌∷◌, ◌++◌, length, drop, Option, Some, None, slice_get, slice_set, arith, length-set, inl, inr}
 use Rattle.std.proofs.lemmas.List.Folds.{list_any-append}
 use Rattle.std.proofs.lemmas.Bool.{ltb-true, ltb-false}
 use Rattle.std.proofs.lemmas.Option.{slice_get_within}
@@ -9,25 +8,24 @@ use Rattle.conn_rules.specs.declared.event.Event.TheVariants as event
 use Rattle.conn_rules.specs.declared.event.Reply.TheVariants as reply
 use Rattle.conn_rules.specs.declared.event.Ticket.{Ticket}
 use Rattle.conn_rules.specs.Causes.{below, are_still}
-use Rattle.conn_rules.specs.Meaning.{Meaning, Hold, Status, Waits, Done}
+use Rattle.conn_rules.specs.Meaning.{Meaning, Hold, Waits, Done}
 use Rattle.conn_rules.specs.State.{Outside, Request, State}
-use Rattle.conn_rules.specs.Steps.{hold_of, hold_in, hold_or_later, first_hold, picked_next, pick_step, answer_to, StepOrNoMemory}
+use Rattle.conn_rules.specs.Steps.{hold_of, hold_in, hold_or_later, first_hold, picked_next, answer_to, StepOrNoMemory}
 use Rattle.conn_rules.proofs.Lists.{found_first}
 use Rattle.correlation.specs.WindowOf.{window_of}
-use Rattle.correlation.specs.IsWindow.{IsWindow, WindowLaws}
+use Rattle.correlation.specs.IsWindow.{IsWindow}
 use Rattle.correlation.proofs.WindowLaws.{laws}
 use Rattle.serving.specs.declared.flight.Flight.{Flight}
 use Rattle.serving.specs.declared.slot.Slot.{Slot}
 use Rattle.serving.specs.declared.slot.Stage.{Stage}
 use Rattle.serving.specs.declared.slot.Stage.TheVariants as stage
-use Rattle.serving.specs.Flights.{first_of, OnlySlots, SameFlight, HasNoHold, PicksSlot, PicksFirst}
+use Rattle.serving.specs.Flights.{first_of, OnlySlots, HasNoHold, PicksSlot, PicksFirst}
 use Rattle.serving.specs.Slots.{is_unpicked, is_picked, awaits_verdict, awaits_response, one_if, IsStage, Keeps, IsPassed}
 use Rattle.serving.specs.Listing.{SameFor, Carries}
 use Rattle.serving.specs.Stands.{Stands}
 use Rattle.serving.proofs.Places.{eqb_same, eqb_other, eqb_back, or_false, set_here, set_other}
 use Rattle.serving.proofs.Same.{keeps_same, passed_same, untouched_same}
 use Rattle.serving.proofs.Notes.{steps}
-use Rattle.serving.proofs.Holds.{not_there_by}
 use Rattle.serving.proofs.Sweeping.{at_or_not}
 use Rattle.serving.proofs.Takes.{none_of}
 use Rattle.serving.proofs.Passing.{stands_like}

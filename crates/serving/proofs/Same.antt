@@ -1,13 +1,13 @@
 -- What is known of a request stays known where nothing of it changes.
-use Rattle.std.proofs.Common.{◌≡◌, ◌≢◌, ◌∙◌, ap, refl, sym, subst, ℕ, zero, suc, ◌+◌, ◌≤◌, ◌<◌, ◌==◌, nat_lt, Bool, true, false, ◌&&◌, if◌then◌else◌, List, length, Option, Some, None, slice_get, arith}
-use Rattle.std.proofs.lemmas.Bool.{lt-ltb, ltb-true, ltb-false}
+use Rattle.std.proofs.Common.{◌≡◌, ◌∙◌, ap, refl, sym, ℕ, zero, suc, ◌≤◌, ◌<◌, nat_lt, Bool, true, false, ◌&&◌, if◌then◌else◌, List, length, Option, Some, arith}
+use Rattle.std.proofs.lemmas.Bool.{ltb-true}
 use Rattle.kp_edge.specs.declared.end.End.{End}
 use Rattle.conn_rules.specs.declared.causes.Causes.{Causes}
 use Rattle.conn_rules.specs.Causes.{below, with_cut}
-use Rattle.conn_rules.specs.Meaning.{Meaning, ToBroker, Hold, Status, Waits, Done, Fails}
+use Rattle.conn_rules.specs.Meaning.{Meaning, Status, Waits, Done, Fails}
 use Rattle.conn_rules.specs.Settling.{lets_later_go}
 use Rattle.conn_rules.specs.State.{Outside, Request, ListedSend, State, cut_at}
-use Rattle.conn_rules.specs.Sweep.{free_before, SweepLaws}
+use Rattle.conn_rules.specs.Sweep.{free_before}
 use Rattle.conn_rules.proofs.Sweep.{sweeps}
 use Rattle.conn_rules.proofs.Resting.{low_before_cut}
 use Rattle.serving.specs.declared.slot.Slot.{Slot}

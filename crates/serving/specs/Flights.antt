@@ -1,5 +1,5 @@
 -- What a connection keeps, and how the calls that need no service change it.
-use Rattle.std.specs.Prelude.{◌≡◌, ℕ, ◌+◌, ◌-◌, ◌<◌, ◌^◌, ◌==◌, ◌&&◌, not, nat_lt, Bool, true, false, List, [], drop, Option, Some, None, if◌then◌else◌, slice_get, slice_set}
+use Rattle.std.specs.Prelude.{◌≡◌, ℕ, ◌+◌, ◌-◌, ◌<◌, ◌^◌, ◌==◌, ◌&&◌, not, nat_lt, Bool, true, false, [], drop, Option, Some, None, if◌then◌else◌, slice_get, slice_set}
 use Rattle.conn_rules.specs.Causes.{no_causes, below}
 use Rattle.conn_rules.specs.declared.event.Ticket.{Ticket}
 use Rattle.correlation.specs.WindowOf.{window_of}

@@ -2,11 +2,9 @@
 use Rattle.std.specs.Prelude.{◌≡◌, ℕ, suc, ◌+◌, ◌≤◌, ◌==◌, ◌&&◌, ◌||◌, not, Bool, true, false, List, [], ◌∷◌, ◌++◌, length, Option, Some, None, if◌then◌else◌, slice_get, drop, count_by}
 use Rattle.std.specs.List.{list_any}
 use Rattle.conn_rules.specs.Causes.{below}
-use Rattle.conn_rules.specs.Meaning.{Meaning, ToBroker, Hold, Status, Waits, Done, Fails}
+use Rattle.conn_rules.specs.Meaning.{Meaning, ToBroker, Hold, Waits, Done, Fails}
 use Rattle.conn_rules.specs.Settling.{is_listed}
 use Rattle.conn_rules.specs.State.{Outside, Request, ListedSend, State, responding}
-use Rattle.serving.specs.declared.frame.WholeFrame.{WholeFrame}
-use Rattle.serving.specs.declared.message.Message.{Message}
 use Rattle.serving.specs.declared.progress.Progress.{Progress}
 use Rattle.serving.specs.declared.progress.Progress.TheVariants as progress
 use Rattle.serving.specs.declared.slot.Slot.{Slot}

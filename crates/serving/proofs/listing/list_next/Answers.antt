@@ -1,19 +1,11 @@
-use Rattle.std.proofs.Common.{◌≡◌, ◌∙◌, ap, sym, subst, Bool, true, false, ◌||◌}
-use Rattle.std.specs.Prelude.{MatchBool}
+use Rattle.std.proofs.Common.{◌≡◌, ◌∙◌, ap, sym, subst, Bool, ◌||◌}
 use Rattle.conn_rules.specs.State.{NoResponse}
 use Rattle.serving.specs.declared.slot.Slot.{Slot}
 use Rattle.serving.specs.declared.slot.Stage.TheVariants as stage
 use Rattle.serving.specs.Slots.{GoesOn}
+use Rattle.serving.proofs.Choices.{if_true, if_false}
 use Rattle.serving.proofs.listing.list_next.Goals.{then-slot, else-slot}
 use Rattle.serving.proofs.listing.list_next.Goals as goal
-
-if_true : (P Q : Type 0) (b : Bool) → b ≡ true → P → MatchBool b P Q
-if_true P Q true is h = h
-if_true P Q false is h = cc
-
-if_false : (P Q : Type 0) (b : Bool) → b ≡ false → Q → MatchBool b P Q
-if_false P Q true is h = cc
-if_false P Q false is h = h
 
 pub returns-then-responds-clause-lists : goal.returns-then-responds-clause-lists
 returns-then-responds-clause-lists g c =

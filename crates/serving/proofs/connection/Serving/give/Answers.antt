@@ -1,24 +1,17 @@
-use Rattle.std.proofs.Common.{◌≡◌, ◌∙◌, ap, sym, refl, subst, ℕ, ◌-◌, arith, Bool, true, false, Result, Ok, Err, slice_get}
-use Rattle.std.specs.Prelude.{OnOk, MatchBool}
+use Rattle.std.proofs.Common.{◌≡◌, ◌∙◌, ap, sym, refl, subst, ℕ, ◌-◌, arith, true, false, Result, Ok, Err, slice_get}
+use Rattle.std.specs.Prelude.{OnOk}
 use Rattle.conn_rules.specs.Room.{limited}
 use Rattle.serving.specs.Services.{outside_of}
 use Rattle.serving.specs.Flights.{first_of}
 use Rattle.serving.specs.Slots.{rests_in}
 use Rattle.serving.specs.Listing.{GivesAt, CountsAt, FlightSettles}
+use Rattle.serving.proofs.Choices.{if_true, if_false}
 use Rattle.serving.proofs.Sweeping.{from_first}
 use Rattle.serving.proofs.connection.Serving.give.Goals as goal
 
 on_ok : {T E P Q : Type 0} → (r : Result T E) → (P → Q) → OnOk r P → OnOk r Q
 on_ok (Ok x) f h = f h
 on_ok (Err e) f h = h
-
-if_true : (P Q : Type 0) (b : Bool) → b ≡ true → P → MatchBool b P Q
-if_true P Q true is h = h
-if_true P Q false is h = cc
-
-if_false : (P Q : Type 0) (b : Bool) → b ≡ false → Q → MatchBool b P Q
-if_false P Q true is h = cc
-if_false P Q false is h = h
 
 pub returns-then-rests_at-clause-gives : goal.returns-then-rests_at-clause-gives
 returns-then-rests_at-clause-gives g c =

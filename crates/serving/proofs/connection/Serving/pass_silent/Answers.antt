@@ -1,4 +1,4 @@
-use Rattle.std.proofs.Common.{◌≡◌, ◌∙◌, sym, ap, refl, true, false, slice_get}
+use Rattle.std.proofs.Common.{◌∙◌, sym, ap, true, false, slice_get}
 use Rattle.conn_rules.specs.Room.{limited}
 use Rattle.serving.specs.Flights.{PassesSilent}
 use Rattle.serving.proofs.Passing.{passes_one, have_passed, passes_all, stands_like, passable_like}

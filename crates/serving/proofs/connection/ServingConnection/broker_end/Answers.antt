@@ -1,9 +1,9 @@
-use Rattle.std.proofs.Common.{ap, refl, sym, ◌∙◌}
+use Rattle.std.proofs.Common.{refl}
 use Rattle.conn_rules.specs.declared.event.Event.TheVariants as event
 use Rattle.conn_rules.specs.Causes.{broker_ended}
 use Rattle.conn_rules.specs.Room.{limited}
 use Rattle.conn_rules.specs.State.{dead, waiting}
-use Rattle.serving.proofs.Ends.{noted_over, noted_now, broker_ends}
+use Rattle.serving.proofs.Ends.{noted_now, broker_ends}
 use Rattle.serving.proofs.connection.ServingConnection.broker_end.Goals as goal
 
 pub returns-then-is_none : goal.returns-then-is_none

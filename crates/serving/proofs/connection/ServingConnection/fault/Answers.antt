@@ -1,4 +1,4 @@
-use Rattle.std.proofs.Common.{◌≡◌, ◌∙◌, ap, sym, subst, refl, Bool, true, false, is_some, if◌then◌else◌, ℕ}
+use Rattle.std.proofs.Common.{◌≡◌, ◌∙◌, ap, refl, Bool, true, false, is_some, if◌then◌else◌}
 use Rattle.kp_edge.specs.declared.end.End.TheVariants as end
 use Rattle.conn_rules.specs.declared.event.Event.TheVariants as event
 use Rattle.conn_rules.specs.declared.event.Reply.TheVariants as reply
@@ -8,7 +8,7 @@ use Rattle.conn_rules.specs.Room.{limited}
 use Rattle.conn_rules.specs.Steps.{faulted}
 use Rattle.serving.specs.declared.flight.Flight.{Flight}
 use Rattle.serving.specs.Flights.{hold_at}
-use Rattle.serving.specs.Stands.{cut_flight, flight_faulted, Stands}
+use Rattle.serving.specs.Stands.{cut_flight, flight_faulted}
 use Rattle.serving.proofs.Ends.{noted_now, faults}
 use Rattle.serving.proofs.Follows.{follows_by}
 use Rattle.serving.proofs.connection.ServingConnection.fault.Goals as goal

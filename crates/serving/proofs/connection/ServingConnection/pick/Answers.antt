@@ -1,4 +1,4 @@
-use Rattle.std.proofs.Common.{◌≡◌, sym, refl, Option, Some, None, ℕ}
+use Rattle.std.proofs.Common.{◌≡◌, sym, refl, Option, Some, None}
 use Rattle.conn_rules.specs.declared.event.Event.TheVariants as event
 use Rattle.conn_rules.specs.declared.event.Reply.TheVariants as reply
 use Rattle.conn_rules.specs.declared.event.Ticket.{Ticket}

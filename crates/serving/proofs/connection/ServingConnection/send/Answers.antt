@@ -1,4 +1,4 @@
-use Rattle.std.proofs.Common.{◌∙◌, sym, refl}
+use Rattle.std.proofs.Common.{sym, refl}
 use Rattle.conn_rules.specs.Room.{limited}
 use Rattle.serving.proofs.Takes.{none_of}
 use Rattle.serving.proofs.Passing.{send_next}

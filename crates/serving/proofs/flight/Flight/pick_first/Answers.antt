@@ -1,4 +1,4 @@
-use Rattle.std.proofs.Common.{◌≡◌, ◌∙◌, ap, sym, subst, true, ℕ, ◌+◌, ◌<◌, ◌^◌, arith, slice_get, slice_set}
+use Rattle.std.proofs.Common.{◌≡◌, ◌∙◌, ap, sym, ℕ, ◌+◌, ◌<◌, ◌^◌, arith, slice_get, slice_set}
 use Rattle.conn_rules.specs.Causes.{below}
 use Rattle.conn_rules.specs.declared.event.Ticket.{Ticket}
 use Rattle.serving.specs.declared.flight.Flight.{Flight}
