@@ -63,9 +63,6 @@ narrowed_is rest value items h = ap narrowed_items h ∙ narrowed_each rest valu
 pub with_one : (b : Contents) (x : Primitive) (xs : List Primitive) → with_items (with_items b (x ∷ [])) xs ≡ with_items b (x ∷ xs)
 with_one b x xs = ap (λ (ys : List Primitive). record b { items = ys }) (append_assoc b.items (x ∷ []) xs)
 
-pub with_more : (b : Contents) (xs ys : List Primitive) → with_items (with_items b xs) ys ≡ with_items b (xs ++ ys)
-with_more b xs ys = ap (λ (zs : List Primitive). record b { items = zs }) (append_assoc b.items xs ys)
-
 pub three_pushed : (b0 b1 b2 b3 : Contents) (key least greatest from to : ℤ) (items rest : List Primitive) → b1 ≡ with_items b0 (Int16 key ∷ []) → b2 ≡ with_items b1 (Int16 from ∷ []) → b3 ≡ with_items b2 (Int16 to ∷ []) → Some (from, to) ≡ known_in (supported_range key) least greatest → items ≡ Int16 key ∷ (Int16 least ∷ (Int16 greatest ∷ rest)) → with_items b3 (known_items rest) ≡ with_items b0 (known_items items)
 three_pushed b0 b1 b2 b3 key least greatest from to items rest e1 e2 e3 m i =
     let more = known_items rest in

@@ -11,7 +11,7 @@ use Rattle.kp_schema.specs.Messages.{is_supported}
 use Rattle.tree_spelling.specs.Shape.{message_shape}
 use Rattle.tree_spelling.specs.Decoded.{decoded, AllItems}
 use Rattle.tree_spelling.specs.Body.{Contents}
-use Rattle.framing.specs.Heads.{has_client_id, client_id_length, client_id_spelled, request_body}
+use Rattle.framing.specs.Heads.{has_client_id, client_id_length, request_body}
 use Rattle.framing.specs.RequestStarts.{request_key, request_version}
 use Rattle.api_versions.specs.Refusal.{api_versions_key}
 use Rattle.conn_core.specs.Requests.{is_told_versions, request_decoded, body_cause, frame_cause, request_of, items_read}
@@ -27,9 +27,6 @@ unless a false h = absurd cc
 pub body_place : (frame : List ℕ) (body_at : ℕ) → body_at ≡ 8 + client_id_length frame → slice_range frame body_at (length frame) ≡ request_body frame
 body_place frame body_at e =
     ap (λ k. take k (drop body_at frame)) (sym (length-drop body_at frame)) ∙ take-length (drop body_at frame) ∙ ap (λ k. drop k frame) e ∙ sym (drop-drop (client_id_length frame) 8 frame)
-
-pub client_id_place : (frame : List ℕ) (body_at : ℕ) → body_at ≡ 8 + client_id_length frame → slice_range frame 8 body_at ≡ client_id_spelled frame
-client_id_place frame body_at e = ap (λ k. take k (drop 8 frame)) (let z : body_at - 8 ≡ client_id_length frame = omega (arith, e) in z)
 
 -- ---- what a frame is
 

@@ -139,17 +139,6 @@ module _ {F P : Type 0} (turn : F → Turn) (stands : F → P → Contents → L
         },
       )
 
-  none : (chain : List F) (ds : List Suspension) → AreSuspended turn stands 0 chain [] ds → ds ≡ []
-  none [] [] are = refl
-  none (f ∷ fs) [] are = refl
-  none [] (d ∷ ds) are = absurd are
-  none (f ∷ fs) (d ∷ ds) are = absurd are
-
-  -- something comes back to the client
-  pub comes_back : (chain : List F) (x : Input) (n : ℕ) (whole : List Outside → Course)
-      → StandFor turn stands chain [] (next.Passes (passing.Input x)) n whole → StandFor turn stands chain [] (next.Stops (stop.Done x)) n whole
-  comes_back chain x n whole s = record { suspensions = []; are = tt; goes = λ xs. s.goes xs ∙ ap (λ ds. behind_turns n (resumed ds (record { fate = Back x; unused = xs; turns = 0 }))) (none chain s.suspensions s.are) }
-
   -- ---- the same as the functions' contracts say it
 
   pub leads_none : (chain : List F) (ss : List (Suspended P)) (from : Next) (steps : ℕ) → Leads turn stands chain ss from steps ss from steps
