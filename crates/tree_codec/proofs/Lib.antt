@@ -4,3 +4,4 @@ pub mod Steps
 pub mod Edits
 pub mod Parts
 pub mod Retaining
+mod Fronts

@@ -72,10 +72,6 @@ read_whole s bytes xs todo rest r next few =
     let v = all_read s bytes xs todo rest r (nothing_to_come s bytes xs todo rest r next) (no_bytes rest few) in
     record { value = v.0; items_are = v.1; spelled = v.2 }
 
-pub moved : (s : Shape) (bytes : List ℕ) (xs ys : List Primitive) (u w : List Shape) (rest : List ℕ) → ItemsReadSoFar s bytes xs u rest → ys ≡ xs → w ≡ u → ItemsReadSoFar s bytes ys w rest
-moved s bytes xs ys u w rest r e f =
-    subst (λ (zs : List Primitive). ItemsReadSoFar s bytes zs w rest) (sym e) (subst (λ (t : List Shape). ItemsReadSoFar s bytes xs t rest) (sym f) r)
-
 -- ---- the whole
 
 pub only_memory : (s : Shape) (bytes : List ℕ) (fault : DecodeFault) → IsFaultOf s bytes fault → (v : Value s) → IsSpelledBy s v bytes → fault ≡ NoMemory
@@ -119,20 +115,9 @@ to_come key version dir xs todo h = ap (option_and_then next_kind) h
 pub items_decoded : (s : Shape) (bytes : List ℕ) (xs : List Primitive) → AreBytes bytes → AreItemsOf s bytes xs → decoded s bytes ≡ AllItems xs
 items_decoded s bytes xs small h = ((decoded_is_spelled s bytes small).0 xs).1 (h.value, h.items_are, h.spelled)
 
-pub whole_decoded : (s : Shape) (bytes : List ℕ) (xs : List Primitive) → AreBytes bytes → AreItemsOf s bytes xs → (items : List Primitive) × (decoded s bytes ≡ AllItems items)
-whole_decoded s bytes xs small h = (xs, items_decoded s bytes xs small h)
-
 pub fault_decoded : (s : Shape) (bytes : List ℕ) (fault : DecodeFault) → AreBytes bytes → IsFaultOf s bytes fault → HasFault (decoded s bytes) fault
 fault_decoded s bytes (NotSpelled at) small h = ((decoded_is_spelled s bytes small).1 at).1 h
 fault_decoded s bytes (TooManyEntries at) small h = ((decoded_is_spelled s bytes small).2 at).1 h
 fault_decoded s bytes NoMemory small h = tt
 
 -- ---- an item more, or the end
-
-pub one_found : {A : Type 0} (next : Option A) (end : Type 0) (more : A → Type 0) → is_some next ≡ true → MatchOption next end more → (x : A) × more x
-one_found None end more is h = absurd cc
-one_found (Some x) end more is h = (x, h)
-
-pub none_found : {A : Type 0} (next : Option A) (end : Type 0) (more : A → Type 0) → is_some next ≡ false → MatchOption next end more → end
-none_found None end more is h = h
-none_found (Some x) end more is h = absurd cc

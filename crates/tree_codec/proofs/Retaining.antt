@@ -196,9 +196,6 @@ all_dropped (x ∷ xs) zero h = absurd (omega (arith, h))
 all_dropped (x ∷ xs) (suc n) h = all_dropped xs n (omega (arith, h))
 
 module _ (e : Shape) (entries : List (Value e)) (flags : List Bool) (more : List Primitive) where
-  pub none_copied : (before : Contents) (rest : List Primitive) → rest ≡ flat_map (items_of e) entries ++ more → AreCopied e entries flags more 0 before before rest
-  none_copied before rest there = record { after_is = ap (λ (xs : List Primitive). record before { items = xs }) (sym (append-nil before.items)); rest_is = there }
-
   -- the next entry
   pub record NextEntry (n end : ℕ) (left : List Primitive) : Type 0 where
     pub entry : Value e

@@ -22,19 +22,6 @@ walked_one t w kind items n x next is h e goes_on =
     let a = next_comes t x (kind_is_next t kind x (sym next) is) in
     ap (λ z. items_behind z (drop (n + 1) items)) (goes_on a.0 a.1) ∙ behind_one t a.0 x (drop (n + 1) items) a.1 ∙ ap (items_behind t) (sym (item_there items n x h e))
 
-pub walked_to_other : (t : List Shape) (kind : Kind) (items : List Primitive) (n : ℕ) (x : Primitive) → Some kind ≡ next_kind t → is_kind kind x ≡ false → n < length items → x ≡ get_or items n x → items_behind t (drop n items) ≡ drop n items
-walked_to_other t kind items n x next other h e =
-    ap (items_behind t) (item_there items n x h e) ∙ behind_other t x (drop (n + 1) items) (other_kind t kind x (sym next) other) ∙ sym (item_there items n x h e)
-
-nothing : (xs : List Primitive) → length xs ≤ 0 → xs ≡ []
-nothing [] h = refl
-nothing (x ∷ xs) h = absurd (omega arith)
-
-pub walked_out : (t : List Shape) (xs : List Primitive) → length xs ≤ 0 → items_behind t xs ≡ xs
-walked_out t xs h =
-    let e = nothing xs h in
-    ap (items_behind t) e ∙ sym e
-
 -- ---- paths
 
 further_twice : (a b : ℕ) (o : Option ℕ) → further a (further b o) ≡ further (a + b) o
@@ -80,13 +67,6 @@ entry_missing k e r s same items at i fld path x h is over v more there =
     let f = first_field k e r s same v in
     let x_is : x ≡ f.first = first_is k e r s same items at x h is v more there f in
     sym (ap (further at) ((f.each i).0 (subst (λ (y : Primitive). entries_of y ≤ i) x_is over) fld path))
-
-pub field_itself : (k : Kind) (e r s : Shape) → s ≡ field_shape k e r → (at : ℕ) (v : Value s) → Some at ≡ further at (field_place s v 0 [])
-field_itself k e r s same at v =
-    sym (ap (further at) (first_field k e r s same v).here ∙ ap Some (omega arith))
-
-pub no_field_named : (k : Kind) (e r s : Shape) → s ≡ field_shape k e r → (at i : ℕ) (v : Value s) → None ≡ further at (field_place s v 0 (i ∷ []))
-no_field_named k e r s same at i v = sym (ap (further at) ((first_field k e r s same v).half i))
 
 no_further : (o : Option ℕ) → further 0 o ≡ o
 no_further None = refl

@@ -3,3 +3,4 @@ pub mod Found
 pub mod Decoding
 pub mod Levels
 pub mod Copying
+pub mod Encoding

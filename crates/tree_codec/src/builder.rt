@@ -2,7 +2,7 @@ ghost use Rattle.std.specs.Prelude.{◌≡◌, ◌≢◌, ◌⊎◌, ◌↔◌, 
 ghost use Rattle.tree_spelling.specs.Spelling.{spelling};
 ghost use Rattle.tree_spelling.specs.Primitives.{IsInRange};
 ghost use Rattle.tree_spelling.specs.Agenda.{is_of};
-ghost use Rattle.tree_spelling.specs.Building.{kind_to_come, put_next, with_next};
+ghost use Rattle.tree_spelling.specs.Building.{kind_to_come, push_next, put_next, with_next};
 
 use crate::agenda::Agenda;
 use crate::body::Body;
@@ -87,6 +87,9 @@ impl Builder {
         ensures next { OnOk result (IsTrue (is_of (kind_to_come self.old) item)) }
         ensures accepted { IsTrue (is_of (kind_to_come self.old) item) → IsInRange item
             → IfErr result (λ fault. fault ≡ EditFault.NoMemory) }
+        ensures err { IfErr result (λ fault.
+            (push_next self.old item ≡ Err fault) ⊎ (fault ≡ EditFault.NoMemory)) }
+        ensures fault { IfErr (push_next self.old item) (λ fault. result ≡ Err fault) }
         ensures kept { OnErr result (self.new ≡ self.old) }
     {
         let Some(kind) = self.agenda.kind() else {

@@ -1,6 +1,7 @@
-ghost use Rattle.std.specs.Prelude.{◌≡◌, ◌<◌, ◌↔◌, ◌++◌, ℕ, length, IsErrOf, IfOk, OnOk};
+ghost use Rattle.std.specs.Prelude.{◌≡◌, ◌<◌, ◌↔◌, ◌++◌, ℕ, length, IsErrOf, IfOk, OnOk, OnErr};
 ghost use Rattle.tree_spelling.specs.Primitives.{spelled, IsInRange};
 ghost use Rattle.tree_spelling.specs.Spelling.{spelling, AreInRange};
+ghost use Rattle.tree_codec.specs.Encoding.{HasFrontWritten};
 
 use crate::body::Body;
 use crate::encode_fault::EncodeFault;
@@ -34,15 +35,18 @@ fn spell(alloc: Global, body: &Body, size: u64) -> Result<Bytes, NoMemory>
 /// Writes the bytes that spell the body behind those that are there. Where memory is wanting, some of them may
 /// stand there.
 pub fn append(out: &mut Writer, body: &Body) -> Result<(), NoMemory>
-    ensures { OnOk result (out.new ≡ out.old ++ spelling body.now.items) }
+    ensures ok { OnOk result (out.new ≡ out.old ++ spelling body.now.items) }
+    ensures err { OnErr result (HasFrontWritten out.old out.new (spelling body.now.items)) }
 {
     body.is_tree();
     write_items(out, body.items())
 }
 
+#[tactic(auto, using(crate::proofs::Fronts::front_written))]
 fn write_items(out: &mut Writer, items: &[Primitive]) -> Result<(), NoMemory>
     requires { AreInRange items.now }
-    ensures { OnOk result (out.new ≡ out.old ++ spelling items.now) }
+    ensures ok { OnOk result (out.new ≡ out.old ++ spelling items.now) }
+    ensures err { OnErr result (HasFrontWritten out.old out.new (spelling items.now)) }
 {
     for item in items {
         write_item(out, item)?;
@@ -52,7 +56,8 @@ fn write_items(out: &mut Writer, items: &[Primitive]) -> Result<(), NoMemory>
 
 fn write_item(out: &mut Writer, item: &Primitive) -> Result<(), NoMemory>
     requires { IsInRange item.now }
-    ensures { OnOk result (out.new ≡ out.old ++ spelled item.now) }
+    ensures ok { OnOk result (out.new ≡ out.old ++ spelled item.now) }
+    ensures err { OnErr result (out.new ≡ out.old) }
 {
     let put = match item {
         Primitive::Int8(number) => out.put_i8(*number),

@@ -2,7 +2,7 @@
 ghost use Rattle.std.specs.Prelude.{◌≡◌, length, Result, IfOk, IsOk, IsTrue};
 ghost use Rattle.tree_spelling.specs.Primitives.{spelled, entries_of, IsInRange};
 ghost use Rattle.tree_spelling.specs.Agenda.{is_kind};
-ghost use Rattle.tree_spelling.specs.Items.{as_item, item_of_kind};
+ghost use Rattle.tree_spelling.specs.Items.{as_item, item_of_kind, with_length};
 
 use bytes::Bytes;
 use kp_schema::Kind;
@@ -177,6 +177,7 @@ pub(crate) fn entries_of(item: &Primitive) -> u32
 
 /// The item itself, if its length, or its count, is one that can be said.
 pub(crate) fn with_length(item: Primitive) -> Result<Primitive, EditFault>
+    ensures value { result ≡ with_length item }
     ensures same { IfOk result (λ same. same ≡ item) }
     ensures fits { IfOk result IsInRange }
     ensures err { IsInRange item → IsOk result }

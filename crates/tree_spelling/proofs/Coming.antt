@@ -10,7 +10,7 @@ use Rattle.tree_spelling.specs.declared.primitive.Primitive.{Primitive}
 use Rattle.tree_spelling.specs.declared.primitive.Primitive.TheVariants.{Int8, Int16, Int32, Int64, Boolean, Text, Binary, Count}
 use Rattle.tree_spelling.specs.Shape.{Shape, End, Plain, Array}
 use Rattle.tree_spelling.specs.Value.{Leaf, Value, leaf_item, array_items, items_of}
-use Rattle.tree_spelling.specs.Agenda.{copies, settled, is_kind, after_array, after, passed, next_kind}
+use Rattle.tree_spelling.specs.Agenda.{copies, settled, is_kind, after_array, after, passed}
 
 -- ---- passing items
 
@@ -25,12 +25,6 @@ after-settled [] x = refl
 after-settled (End ∷ t) x = after-settled t x
 after-settled (Plain k r ∷ t) x = refl
 after-settled (Array e r ∷ t) x = refl
-
-pub next_kind-settled : (t : List Shape) → next_kind (settled t) ≡ next_kind t
-next_kind-settled [] = refl
-next_kind-settled (End ∷ t) = next_kind-settled t
-next_kind-settled (Plain k r ∷ t) = refl
-next_kind-settled (Array e r ∷ t) = refl
 
 pub passed-settled : (t : List Shape) (xs : List Primitive) → passed (settled t) xs ≡ passed t xs
 passed-settled t [] = ap Some (settled-again t)

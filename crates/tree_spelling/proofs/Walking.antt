@@ -1,5 +1,5 @@
 -- What follows the entries of an array, and the fields of a value.
-use Rattle.std.proofs.Common.{◌≡◌, ℕ, zero, suc, ◌+◌, ◌<◌, ◌≤◌, false, List, [], ◌∷◌, ◌++◌, length, take, drop, Option, Some, None, refl, sym, ap, ◌∙◌, append_assoc, append-nil, arith, subst}
+use Rattle.std.proofs.Common.{◌≡◌, ℕ, zero, suc, ◌+◌, ◌<◌, ◌≤◌, List, [], ◌∷◌, ◌++◌, length, take, drop, Option, Some, None, refl, sym, ap, ◌∙◌, append_assoc, append-nil, arith, subst}
 use Rattle.std.specs.Prelude.{slice_get}
 use Rattle.std.specs.List.{flat_map}
 use Rattle.std.specs.Option.{option_and_then}
@@ -10,7 +10,7 @@ use Rattle.tree_spelling.specs.declared.primitive.Primitive.TheVariants.{Count}
 use Rattle.tree_spelling.specs.Primitives.{entries_of}
 use Rattle.tree_spelling.specs.Shape.{Shape, End, Plain, Array, field_shape}
 use Rattle.tree_spelling.specs.Value.{Value, leaf_item, items_of}
-use Rattle.tree_spelling.specs.Agenda.{copies, settled, after, after_array, passed, items_behind, behind_next, next_kind, is_kind}
+use Rattle.tree_spelling.specs.Agenda.{copies, settled, after, passed, items_behind, behind_next, next_kind}
 use Rattle.tree_spelling.specs.Paths.{further, field_place}
 use Rattle.tree_spelling.proofs.Coming.{comes, entries_come, after-settled}
 
@@ -45,9 +45,6 @@ copies_pass e es =
 pub behind_one : (t u : List Shape) (x : Primitive) (xs : List Primitive) → after t x ≡ Some u → items_behind (settled u) xs ≡ items_behind t (x ∷ xs)
 behind_one t u x xs h = behind-settled u xs ∙ sym (ap (behind_next (λ w. items_behind w xs) (x ∷ xs)) h)
 
-pub behind_other : (t : List Shape) (x : Primitive) (xs : List Primitive) → after t x ≡ None → items_behind t (x ∷ xs) ≡ x ∷ xs
-behind_other t x xs h = ap (behind_next (λ w. items_behind w xs) (x ∷ xs)) h
-
 none_kind : (t : List Shape) → next_kind t ≡ None → settled t ≡ []
 none_kind [] h = refl
 none_kind (End ∷ t) h = none_kind t h
@@ -56,21 +53,6 @@ none_kind (Array e r ∷ t) h = absurd cc
 
 pub behind_end : (t : List Shape) (xs : List Primitive) → next_kind t ≡ None → items_behind t xs ≡ xs
 behind_end t xs h = sym (behind-settled t xs) ∙ ap (λ u. items_behind u xs) (none_kind t h) ∙ behind-nothing xs
-
-array_other : (e r : Shape) (t : List Shape) (x : Primitive) → is_kind kinds.Array x ≡ false → after_array e r t x ≡ None
-array_other e r t (Count n) h = absurd cc
-array_other e r t x h = refl
-
-pub other_kind : (t : List Shape) (k : Kind) (x : Primitive) → next_kind t ≡ Some k → is_kind k x ≡ false → after t x ≡ None
-other_kind [] k x h n = absurd cc
-other_kind (End ∷ t) k x h n = other_kind t k x h n
-other_kind (Plain j r ∷ t) k x h n =
-    let same : j ≡ k = cc in
-    let no : is_kind j x ≡ false = ap (λ i. is_kind i x) same ∙ n in
-    rw no refl
-other_kind (Array e r ∷ t) k x h n =
-    let same : kinds.Array ≡ k = cc in
-    array_other e r t x (ap (λ i. is_kind i x) same ∙ n)
 
 -- ---- an entry of an array
 

@@ -50,3 +50,14 @@ item_of_kind kinds.Str (Text bytes) = text_within 32767 bytes (primitive.Text by
 item_of_kind kinds.Bytes (Text bytes) = text_within 2147483647 bytes (Binary bytes)
 item_of_kind kinds.Array (Entries entries) = count_within 2147483647 entries (Count entries)
 item_of_kind _ _ = Err WrongKind
+
+-- An item that has its type already: its length, or its count, has to be one that can be said.
+abbrev pub with_length : Primitive → Result Primitive EditFault
+with_length (Int8 number) = Ok (Int8 number)
+with_length (Int16 number) = Ok (Int16 number)
+with_length (Int32 number) = Ok (Int32 number)
+with_length (Int64 number) = Ok (Int64 number)
+with_length (Boolean byte) = Ok (Boolean byte)
+with_length (primitive.Text bytes) = text_within 32767 bytes (primitive.Text bytes)
+with_length (Binary bytes) = text_within 2147483647 bytes (Binary bytes)
+with_length (Count entries) = count_within 2147483647 entries (Count entries)
