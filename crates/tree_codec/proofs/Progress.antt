@@ -25,7 +25,6 @@ use Rattle.tree_codec.specs.Decoding.{AreItemsOf, HasFault}
 use Rattle.tree_spelling.specs.Laws.{AreBytes}
 use Rattle.tree_spelling.specs.Decoded.{decoded, AllItems}
 use Rattle.tree_spelling.proofs.Decoding.{decoded_is_spelled}
-use Rattle.std.specs.Prelude.{MatchOption}
 
 -- ---- faults
 

@@ -1,5 +1,5 @@
 -- A body that is copied item by item, but for some entries of an array.
-use Rattle.std.proofs.Common.{◌≡◌, ◌∙◌, ap, sym, refl, subst, ℕ, zero, suc, ◌+◌, ◌-◌, ◌<◌, ◌≤◌, Bool, true, false, if◌then◌else◌, List, [], ◌∷◌, ◌++◌, length, length-append, length-drop, take, drop, drop-cons, get_or, add-one, Option, Some, None, Result, Ok, Err, append_assoc, append-nil, take_all, arith, ◌⊎◌, inl, inr}
+use Rattle.std.proofs.Common.{◌≡◌, ◌∙◌, ap, sym, refl, subst, ℕ, zero, suc, ◌+◌, ◌-◌, ◌<◌, ◌≤◌, Bool, true, false, if◌then◌else◌, List, [], ◌∷◌, ◌++◌, length, length-append, length-drop, take, drop, add-one, Some, None, Result, Ok, Err, append_assoc, append-nil, take_all, arith, ◌⊎◌, inl, inr}
 use Rattle.std.specs.Prelude.{slice_get, MatchResult}
 use Rattle.std.specs.List.{flat_map}
 use Rattle.std.specs.Result.{IfOk, IfErr}
@@ -18,7 +18,7 @@ use Rattle.tree_spelling.specs.Agenda.{copies, passed, items_behind}
 use Rattle.tree_spelling.specs.Retaining.{within, flagged, field_flagged, value_flagged}
 use Rattle.tree_spelling.proofs.Walking.{behind_all, copies_pass}
 use Rattle.tree_spelling.proofs.Retaining.{FirstFlagged, EntryFlagged, ItselfFlagged, first_flagged}
-use Rattle.tree_codec.specs.Copying.{followed_by, is_flag, flag_at, flag_count, IsCopied, IsFlagged, AreCopied, ArrayIsCopied, BeginsWithNoArray}
+use Rattle.tree_codec.specs.Copying.{followed_by, flag_at, flag_count, IsCopied, IsFlagged, AreCopied, ArrayIsCopied, BeginsWithNoArray}
 
 -- ---- results
 

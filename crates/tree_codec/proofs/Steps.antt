@@ -1,5 +1,5 @@
 -- One step of a walk over items.
-use Rattle.std.proofs.Common.{◌≡◌, ℕ, suc, ◌+◌, ◌<◌, ◌≤◌, true, false, List, [], ◌∷◌, ◌++◌, length, length-append, length-drop, drop, get_or, Option, Some, None, Result, refl, sym, ap, ◌∙◌, append_assoc, append-nil, add-one, drop-cons, arith, subst, ◌-◌}
+use Rattle.std.proofs.Common.{◌≡◌, ℕ, suc, ◌+◌, ◌<◌, ◌≤◌, true, List, [], ◌∷◌, ◌++◌, length, length-append, length-drop, drop, get_or, Option, Some, None, Result, refl, sym, ap, ◌∙◌, append_assoc, append-nil, add-one, drop-cons, arith, subst, ◌-◌}
 use Rattle.std.specs.Result.{IfOk}
 use Rattle.kp_schema.specs.declared.kind.Kind.{Kind}
 use Rattle.tree_spelling.specs.declared.primitive.Primitive.{Primitive}
@@ -10,7 +10,7 @@ use Rattle.tree_spelling.specs.Agenda.{is_kind, next_kind, after, settled, passe
 use Rattle.tree_spelling.specs.Paths.{further, field_place, place_at}
 use Rattle.tree_spelling.proofs.Endings.{kind_is_next}
 use Rattle.tree_spelling.proofs.Fronts.{next_comes}
-use Rattle.tree_spelling.proofs.Walking.{behind_one, behind_other, other_kind, behind_all, FirstField, first_field}
+use Rattle.tree_spelling.proofs.Walking.{behind_one, behind_all, FirstField, first_field}
 
 pub item_there : (items : List Primitive) (n : ℕ) (x : Primitive) → n < length items → x ≡ get_or items n x → drop n items ≡ x ∷ drop (n + 1) items
 item_there items n x h e =

@@ -1,5 +1,5 @@
 -- A body that is copied item by item, but for some entries of an array.
-use Rattle.std.specs.Prelude.{◌≡◌, ℕ, zero, suc, ◌+◌, Bool, true, false, if◌then◌else◌, List, [], ◌∷◌, ◌++◌, length, take, drop, slice_get, Option, Some, None, Result, Ok, Err, MatchResult}
+use Rattle.std.specs.Prelude.{◌≡◌, ℕ, zero, suc, ◌+◌, Bool, false, if◌then◌else◌, List, [], ◌∷◌, ◌++◌, length, take, drop, slice_get, Option, Some, None, Result, MatchResult}
 use Rattle.std.specs.List.{flat_map}
 use Rattle.tree_spelling.specs.declared.primitive.Primitive.{Primitive}
 use Rattle.tree_spelling.specs.declared.primitive.Primitive.TheVariants.{Count}

@@ -7,7 +7,7 @@ use Rattle.tree_spelling.specs.Shape.{Shape}
 use Rattle.tree_spelling.specs.Value.{Value, items_of}
 use Rattle.tree_spelling.specs.Spelling.{spelling, IsSpelledBy}
 use Rattle.tree_spelling.specs.Agenda.{ItemsReadSoFar}
-use Rattle.tree_spelling.specs.Decoded.{Decoded, AllItems, BadAt, TooManyAt}
+use Rattle.tree_spelling.specs.Decoded.{Decoded, BadAt, TooManyAt}
 use Rattle.tree_codec.specs.declared.decode_fault.DecodeFault.{DecodeFault}
 use Rattle.tree_codec.specs.declared.decode_fault.DecodeFault.TheVariants.{NotSpelled, TooManyEntries, NoMemory}
 use Rattle.tree_codec.specs.declared.item_reader.ItemReader.{ItemReader}

@@ -1,5 +1,4 @@
-use Rattle.std.proofs.Common.{◌≡◌, ◌∙◌, ap, sym, refl, subst, ℕ, ◌+◌, ◌-◌, ◌<◌, ◌≤◌, true, false, List, [], ◌∷◌, ◌++◌, length, take, drop, arith, inl, inr}
-use Rattle.tree_spelling.specs.Primitives.{entries_of}
+use Rattle.std.proofs.Common.{◌∙◌, ap, sym, ◌∷◌, ◌++◌, arith, inl}
 use Rattle.tree_spelling.specs.Shape.{nest, field_shape}
 use Rattle.tree_codec.proofs.Retaining.{if_ok, if_err, none_flagged, f, t, later_there, later_ok, later_err, entry_there, entry_ok, entry_err, half_err, missing_err, itself_ok, itself_err, no_more}
 use Rattle.tree_codec.proofs.retain.+retain_in.Goals as goal

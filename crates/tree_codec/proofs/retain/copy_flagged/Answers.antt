@@ -1,8 +1,6 @@
-use Rattle.std.proofs.Common.{◌≡◌, ◌∙◌, ap, sym, refl, subst, ℕ, ◌+◌, ◌-◌, ◌<◌, ◌≤◌, true, false, List, [], ◌∷◌, ◌++◌, length, take, drop, arith, inl, inr}
+use Rattle.std.proofs.Common.{◌∙◌, sym, ◌<◌, length, arith}
 use Rattle.tree_spelling.specs.Shape.{nest}
-use Rattle.tree_spelling.specs.Value.{Value, items_of}
-use Rattle.tree_codec.specs.Copying.{flag_at, AreCopied}
-use Rattle.tree_codec.proofs.Retaining.{NextEntry, next_entry_is, one_copied, one_left_out}
+use Rattle.tree_codec.proofs.Retaining.{next_entry_is, one_copied, one_left_out}
 use Rattle.tree_codec.proofs.retain.copy_flagged.Goals as goal
 use Rattle.tree_codec.proofs.retain.copy_flagged.Goals.{then-has_flag+in_ok-left, else-has_flag}
 

@@ -1,7 +1,6 @@
-use Rattle.std.proofs.Common.{◌≡◌, ◌∙◌, ap, sym, refl, subst, ℕ, ◌+◌, ◌-◌, ◌<◌, ◌≤◌, true, false, List, [], ◌∷◌, ◌++◌, length, take, drop, arith, inl, inr}
+use Rattle.std.proofs.Common.{◌∙◌, ap}
 use Rattle.tree_spelling.specs.declared.primitive.Primitive.TheVariants.{Count}
 use Rattle.tree_spelling.specs.Shape.{nest}
-use Rattle.tree_codec.specs.Copying.{ArrayIsCopied}
 use Rattle.tree_codec.proofs.Retaining.{if_ok, array_copied}
 use Rattle.tree_codec.proofs.retain.retain_entries.Goals as goal
 

@@ -1,4 +1,3 @@
-use Rattle.std.proofs.Common.{◌≡◌, ◌∙◌, ap, sym, refl, subst, ℕ, ◌+◌, ◌-◌, ◌<◌, ◌≤◌, true, false, List, [], ◌∷◌, ◌++◌, length, take, drop, arith, inl, inr}
 use Rattle.tree_codec.proofs.Retaining.{body_retained, body_refused}
 use Rattle.tree_codec.proofs.body.Body.retain.Goals as goal
 
