@@ -4,11 +4,45 @@ use super::*;
 use std::alloc::Global;
 use std::process::Abort;
 
-mod ample;
-mod ends;
+// The least, odd and great sizes.
+const SIZES: [usize; 6] = [0, 1, 4_097, 65_537, 1_048_577, 3_000_001];
 
-fn blob(rt: &impl Abort, alloc: Global, bytes: &[u8]) -> Blob {
-    Blob::copy(alloc, bytes).expect(rt, "memory")
+// So many bytes, of which each tells its place as far as a byte can.
+fn marked(rt: &impl Abort, alloc: Global, size: usize) -> Blob {
+    let mut bytes = Vec::new(alloc);
+    for place in 0..size {
+        bytes.push((place % 251) as u8).expect(rt, "memory");
+    }
+    Blob::from_vec(bytes)
+}
+
+// Each object in memory takes or gives bytes of every size.
+#[test]
+fn objects_in_memory_have_room_for_every_size(rt: HostRuntime) {
+    let alloc = rt.alloc();
+    for size in SIZES {
+        let whole = marked(&rt, alloc, size);
+        let want = whole.as_slice();
+        let copy = Blob::copy(alloc, want).expect(&rt, "memory");
+        assert!(rt; copy.as_slice() == want, "Blob, {size}");
+
+        let mut sure = SureSink::new(alloc, size as u64).expect(&rt, "memory");
+        assert_eq!(rt; sure.write(want), Ok(size));
+        assert!(rt; sure.bytes() == want, "SureSink, {size}");
+
+        let mut sink = MemSink::new(alloc, u32::MAX, size as u64, Vec::new(alloc)).expect(
+            &rt, "memory",
+        );
+        assert_eq!(rt; sink.write(want), Ok(size));
+        assert!(rt; sink.bytes() == want, "MemSink, {size}");
+
+        let name = Blob::copy(alloc, b"f").expect(&rt, "memory");
+        let listed = vec![in alloc; (name, copy)].expect(&rt, "memory");
+        let mut files = MemFiles::new(listed, Vec::new(alloc));
+        let read = files.read(alloc, b"f", size).expect(&rt, "memory");
+        assert!(rt; read.as_slice() == want, "MemFiles, {size}");
+    }
+    assert!(rt; SureSink::new(alloc, u64::MAX).is_err());
 }
 
 // What one read of a source gives: its bytes, or none for a failure.
@@ -27,183 +61,55 @@ fn one_read<S: Source>(
     }
 }
 
-#[test]
-fn blobs_keep_their_bytes(rt: HostRuntime) {
-    let made = blob(&rt, rt.alloc(), b"kafka");
-    assert_eq!(rt; made.as_slice(), b"kafka".as_slice());
-    assert_eq!(rt; made.len(), 5);
-    assert!(rt; !made.is_empty());
-    let again = Blob::from_vec(made.into_vec());
-    assert_eq!(rt; again.as_slice(), b"kafka".as_slice());
-    assert!(rt; blob(&rt, rt.alloc(), b"").is_empty());
-}
-
-// Read 0 gives its piece, read 1 counts its 0 as 1, read 2 fails, the others give what fits, and behind
-// the end the listed read 6 doesn't fail.
+// Read 0 gives its piece, read 1 counts its 0 as 1, read 2 fails, the others give what fits, and behind the end the
+// listed read 6 doesn't fail.
 #[test]
 fn a_source_in_memory_gives_its_pieces(rt: HostRuntime) {
     let alloc = rt.alloc();
     let pieces = vec![in alloc; 2, 0, 7].expect(&rt, "memory");
     let failing = vec![in alloc; 2, 6].expect(&rt, "memory");
-    let mut source = MemSource::new(blob(&rt, rt.alloc(), b"abcdefghijk"), pieces, failing);
-    let table = [
-        (0, Some("ab")),
-        (1, Some("c")),
-        (2, None),
-        (3, Some("defg")),
-        (4, Some("hijk")),
-        (5, Some("")),
-        (6, Some("")),
-    ];
-    for (number, want) in table {
-        let given = one_read(&rt, rt.alloc(), &mut source, 4);
+    let bytes = Blob::copy(alloc, b"abcdefghijk").expect(&rt, "memory");
+    let mut source = MemSource::new(bytes, pieces, failing);
+    for want in [
+        Some("ab"),
+        Some("c"),
+        None,
+        Some("defg"),
+        Some("hijk"),
+        Some(""),
+        Some(""),
+    ] {
+        let given = one_read(&rt, alloc, &mut source, 4);
         assert_eq!(rt;
-            (number, given.as_ref().map(|v| v.as_slice())),
-            (number, want.map(|s| s.as_bytes()))
+            given.as_ref().map(|v| v.as_slice()),
+            want.map(|s| s.as_bytes())
         );
     }
     assert_eq!(rt; source.faults(), 1);
 }
 
-#[test]
-fn a_sure_source_gives_what_fits(rt: HostRuntime) {
-    let mut source = SureSource::new(blob(&rt, rt.alloc(), b"abcde"));
-    let table = [
-        (0, Some("abc")),
-        (1, Some("de")),
-        (2, Some("")),
-        (3, Some("")),
-    ];
-    for (number, want) in table {
-        let given = one_read(&rt, rt.alloc(), &mut source, 3);
-        assert_eq!(rt;
-            (number, given.as_ref().map(|v| v.as_slice())),
-            (number, want.map(|s| s.as_bytes()))
-        );
-    }
-}
-
-#[test]
-fn a_sure_sink_fails_where_its_room_is_used_up(rt: HostRuntime) {
-    let mut sink = SureSink::new(rt.alloc(), 5).expect(&rt, "memory");
-    let table = [
-        (0, "abc", Ok(3)),
-        (1, "", Ok(0)),
-        (2, "def", Ok(2)),
-        (3, "g", Err(Failed)),
-        (4, "", Ok(0)),
-    ];
-    for (number, piece, want) in table {
-        assert_eq!(rt;
-            (number, piece, sink.write(piece.as_bytes())),
-            (number, piece, want)
-        );
-    }
-    sink.finish();
-    assert_eq!(rt; sink.bytes(), b"abcde".as_slice());
-    assert_eq!(rt; sink.faults(), 1);
-    assert!(rt; SureSink::new(rt.alloc(), u64::MAX).is_err());
-}
-
-#[test]
-fn a_sink_in_memory_fails_where_it_is_told(rt: HostRuntime) {
-    let failing = vec![in rt.alloc(); 1].expect(&rt, "memory");
-    let mut sink = MemSink::new(rt.alloc(), 2, 5, failing).expect(&rt, "memory");
-    let table = [
-        (0, "abc", Ok(2)),
-        (1, "cd", Err(Failed)),
-        (2, "cd", Ok(2)),
-        (3, "ef", Ok(1)),
-        (4, "f", Err(Failed)),
-        (5, "", Ok(0)),
-    ];
-    for (number, piece, want) in table {
-        assert_eq!(rt;
-            (number, piece, sink.write(piece.as_bytes())),
-            (number, piece, want)
-        );
-    }
-    sink.finish();
-    assert_eq!(rt; sink.bytes(), b"abcde".as_slice());
-    assert_eq!(rt; sink.faults(), 2);
-
-    // At most 0 bytes counts as 1.
-    let mut slow = MemSink::new(rt.alloc(), 0, 5, Vec::new(rt.alloc())).expect(&rt, "memory");
-    assert_eq!(rt; slow.write(b"abc"), Ok(1));
-}
-
-#[test]
-fn files_in_memory_are_found_by_name(rt: HostRuntime) {
-    let alloc = rt.alloc();
-    let files = vec![in alloc;
-        (blob(&rt, rt.alloc(), b"a"), blob(&rt, rt.alloc(), b"first")),
-        (blob(&rt, rt.alloc(), b"b"), blob(&rt, rt.alloc(), b"")),
-        (
-            blob(&rt, rt.alloc(), b"a"),
-            blob(&rt, rt.alloc(), b"second")
-        ),
-    ]
-    .expect(&rt, "memory");
-    let failing = vec![in alloc; 3].expect(&rt, "memory");
-    let mut files = MemFiles::new(files, failing);
-    let table = [
-        (0, "a", 4, Ok("firs")),
-        (1, "a", 9, Ok("first")),
-        (2, "b", 9, Ok("")),
-        (3, "a", 9, Err(FileFault::Failed)),
-        (4, "c", 9, Err(FileFault::Failed)),
-        (5, "a", 0, Ok("")),
-    ];
-    for (number, name, most, want) in table {
-        let read = files.read(alloc, name.as_bytes(), most);
-        assert_eq!(rt;
-            (
-                number,
-                name,
-                read.as_ref()
-                    .map(|blob| blob.as_slice())
-                    .map_err(|fault| *fault)
-            ),
-            (number, name, want.map(|text| text.as_bytes()))
-        );
-    }
-    assert_eq!(rt; files.faults(), 2);
-}
-
 // `/dev/zero` has no end, `/` is a directory, and the last name is no text.
 #[test]
 fn files_of_the_machine_are_read_to_the_limit(rt: HostRuntime) {
+    let alloc = rt.alloc();
     let mut files = HostFiles::new(&rt).expect(&rt, "memory");
-    let table = [
-        (b"/dev/zero".as_slice(), Ok(b"\0\0\0".as_slice())),
-        (b"/dev/null".as_slice(), Ok(b"".as_slice())),
-        (b"/no/such/file".as_slice(), Err(FileFault::Failed)),
-        (b"/".as_slice(), Err(FileFault::Failed)),
-        (b"\xff".as_slice(), Err(FileFault::Failed)),
-    ];
-    for (name, want) in table {
-        let read = files.read(rt.alloc(), name, 3);
-        assert_eq!(rt;
-            (
-                name,
-                read.as_ref()
-                    .map(|blob| blob.as_slice())
-                    .map_err(|fault| *fault)
-            ),
-            (name, want)
-        );
+    for size in SIZES {
+        let read = files.read(alloc, b"/dev/zero", size).expect(&rt, "memory");
+        let want = vec![in alloc; 0u8; size].expect(&rt, "memory");
+        assert!(rt; read.as_slice() == want.as_slice(), "{size}");
+    }
+    assert_eq!(rt;
+        files.read(alloc, b"/dev/null", 3).map(|read| read.len()),
+        Ok(0)
+    );
+    for name in [
+        b"/no/such/file".as_slice(),
+        b"/".as_slice(),
+        b"\xff".as_slice(),
+    ] {
+        assert!(rt; files.read(alloc, name, 3).err() == Some(FileFault::Failed));
     }
     assert_eq!(rt; files.faults(), 3);
-}
-
-#[test]
-fn the_standard_streams_begin_without_a_fault(rt: HostRuntime) {
-    let input = StdIn::new(&rt).expect(&rt, "no memory is taken");
-    assert_eq!(rt; input.faults(), 0);
-    let mut output = StdOut::new(&rt).expect(&rt, "memory");
-    assert_eq!(rt; output.write(b""), Ok(0));
-    output.finish();
-    assert_eq!(rt; output.faults(), 0);
 }
 
 fn sent<T: Send>(value: T) -> T {
@@ -211,8 +117,26 @@ fn sent<T: Send>(value: T) -> T {
 }
 
 #[test]
-fn steps_take_no_bytes_and_can_be_sent(rt: HostRuntime) {
+fn the_machines_streams_begin_without_a_fault(rt: HostRuntime) {
+    let input = StdIn::new(&rt).expect(&rt, "no memory is taken");
+    assert_eq!(rt; input.faults(), 0);
+    let mut output = StdOut::new(&rt).expect(&rt, "memory");
+    assert_eq!(rt; output.write(b""), Ok(0));
+    output.finish();
+    assert_eq!(rt; output.faults(), 0);
+
+    // Steps take no bytes, and a thread can have them.
     let mut steps: Steps<u64> = sent(Steps::new());
     steps.tick();
     assert_eq!(rt; size_of::<Steps<u64>>(), 0);
+
+    let end = End::Mismatch {
+        expected: i32::MAX,
+        found: i32::MIN,
+    };
+    let text = end.to_string(rt.alloc()).expect(&rt, "memory");
+    assert_eq!(rt;
+        text.as_str(),
+        "mismatch expected=2147483647 found=-2147483648"
+    );
 }

@@ -48,30 +48,24 @@ const ITEMS: [(Item<'static>, &'static [u8]); 24] = [
     (Item::Count(Some(2147483647)), &[0x7f, 0xff, 0xff, 0xff]),
 ];
 
-// Bytes that begin with no BYTES.
-const NO_BYTES: [(&'static [u8], ReadFault); 5] = [
-    (&[], ReadFault::Short { at: 0 }),
-    (&[0, 0, 0], ReadFault::Short { at: 0 }),
-    (&[0, 0, 0, 2, 3], ReadFault::Short { at: 0 }),
-    (&[0xff, 0xff, 0xff, 0xfe], ReadFault::BadLength { at: 0 }),
-    (&[0x80, 0, 0, 0, 1], ReadFault::BadLength { at: 0 }),
-];
-
-// Bytes that begin with no count.
-const NO_COUNTS: [(&'static [u8], ReadFault); 3] = [
-    (&[0, 0, 0], ReadFault::Short { at: 0 }),
-    (&[0xff, 0xff, 0xff, 0xfe], ReadFault::BadLength { at: 0 }),
-    (&[0x80, 0, 0, 0], ReadFault::BadLength { at: 0 }),
-];
-
-// Bytes that begin with no STRING.
-const NO_STRINGS: [(&'static [u8], ReadFault); 6] = [
-    (&[], ReadFault::Short { at: 0 }),
-    (&[0], ReadFault::Short { at: 0 }),
-    (&[0, 1], ReadFault::Short { at: 0 }),
-    (&[0, 2, 3], ReadFault::Short { at: 0 }),
-    (&[0xff, 0xfe], ReadFault::BadLength { at: 0 }),
-    (&[0x80, 0, 1], ReadFault::BadLength { at: 0 }),
+// Bytes that begin with no such item, and whether they are too short for it. Else their length is bad.
+const NO_ITEMS: [(Item<'static>, &'static [u8], bool); 16] = [
+    (Item::Text(None), &[], true),
+    (Item::Text(None), &[0], true),
+    (Item::Text(None), &[0, 1], true),
+    (Item::Text(None), &[0, 2, 3], true),
+    (Item::Text(None), &[0xff, 0xfe], false),
+    (Item::Text(None), &[0x80, 0, 1], false),
+    (Item::Found(None), &[], true),
+    (Item::Found(None), &[0, 0, 0], true),
+    (Item::Found(None), &[0, 0, 0, 2, 3], true),
+    (Item::Found(None), &[0xff, 0xff, 0xff, 0xfe], false),
+    (Item::Found(None), &[0x80, 0, 0, 0, 1], false),
+    (Item::Count(None), &[0, 0, 0], true),
+    (Item::Count(None), &[0xff, 0xff, 0xff, 0xfe], false),
+    (Item::Count(None), &[0x80, 0, 0, 0], false),
+    (Item::Int64(0), &[1], true),
+    (Item::Int8(0), &[], true),
 ];
 
 fn put(out: &mut Writer, item: &Item) -> Result<(), PutFault> {
@@ -99,56 +93,37 @@ fn read<'a>(reader: &mut Reader<'a>, item: &Item) -> Result<Item<'a>, ReadFault>
     })
 }
 
+// Each item has its bytes, and all of them are read one behind the other.
 #[test]
-fn each_item_has_its_bytes(rt: HostRuntime) {
+fn items_are_put_and_read_in_order(rt: HostRuntime) -> Result<(), Fail> {
+    let mut all = Writer::new(rt.alloc());
     let mut out = Writer::new(rt.alloc());
     for (item, bytes) in &ITEMS {
         out.clear();
         let answer = put(&mut out, item);
         assert_eq!(rt; (answer, out.as_slice()), (Ok(()), *bytes), "{item:?}");
+        all.put_all(*bytes).ok().ok_or("memory")?;
     }
-}
-
-#[test]
-fn items_are_read_in_order(rt: HostRuntime) -> Result<(), Fail> {
-    let mut out = Writer::new(rt.alloc());
-    for (_, bytes) in &ITEMS {
-        out.put_all(*bytes).ok().ok_or("memory")?;
-    }
-    let bytes = out.finish().ok().ok_or("memory")?;
+    let bytes = all.finish().ok().ok_or("memory")?;
     let mut reader = Reader::new(bytes.as_slice());
-    for (row, (item, _)) in ITEMS.iter().enumerate() {
-        assert_eq!(rt; (row, read(&mut reader, item)), (row, Ok(*item)));
+    for (item, _) in &ITEMS {
+        assert_eq!(rt; read(&mut reader, item), Ok(*item));
     }
     assert_eq!(rt; reader.left(), 0);
     Ok(())
 }
 
 #[test]
-fn no_string_is_read(rt: HostRuntime) {
-    for (bytes, fault) in NO_STRINGS {
-        assert_eq!(rt; Reader::new(bytes).string(), Err(fault), "{bytes:?}");
+fn no_other_item_is_read(rt: HostRuntime) {
+    for (item, bytes, is_short) in NO_ITEMS {
+        let fault = if is_short {
+            ReadFault::Short { at: 0 }
+        } else {
+            ReadFault::BadLength { at: 0 }
+        };
+        let found = read(&mut Reader::new(bytes), &item);
+        assert_eq!(rt; found, Err(fault), "{item:?} {bytes:?}");
     }
-}
-
-#[test]
-fn no_bytes_are_read(rt: HostRuntime) {
-    for (bytes, fault) in NO_BYTES {
-        assert_eq!(rt; Reader::new(bytes).bytes(), Err(fault), "{bytes:?}");
-    }
-}
-
-#[test]
-fn no_count_is_read(rt: HostRuntime) {
-    for (bytes, fault) in NO_COUNTS {
-        assert_eq!(rt; Reader::new(bytes).count(), Err(fault), "{bytes:?}");
-    }
-    assert_eq!(rt; Reader::new(&[1]).i64(), Err(ReadFault::Short { at: 0 }));
-    assert_eq!(rt; Reader::new(&[]).i8(), Err(ReadFault::Short { at: 0 }));
-}
-
-#[test]
-fn a_count_past_the_limit_is_refused(rt: HostRuntime) {
     let mut out = Writer::new(rt.alloc());
     let put = out.put_count(Some(2147483648));
     assert_eq!(rt; put, Err(PutFault::TooLong { length: 2147483648 }));

@@ -2,7 +2,7 @@
 use super::*;
 use std::alloc::{AllocError, Global};
 
-const ENTRIES: [u32; 7] = [0, 1, 2, 3, 1_000, 20_003, 100_003];
+const ENTRIES: [u32; 6] = [0, 1, 2, 3, 1_000, 100_003];
 
 // What a broker says by turns of three APIs, and what passes of it.
 const SAID: [[u8; 6]; 3] = [[0, 0, 0, 0, 0, 9], [0, 60, 0, 0, 0, 0], [0, 1, 0, 0, 0, 13]];
@@ -34,18 +34,6 @@ fn passed(alloc: Global, entries: u32, rest: &[u8]) -> Result<Vec<u8>, AllocErro
     Ok(bytes)
 }
 
-// How many bytes there are, and the first place where they aren't the wanted ones.
-type Found = (usize, Option<usize>);
-
-fn found(got: &[u8], wanted: &[u8]) -> Found {
-    if got == wanted {
-        return (got.len(), None);
-    }
-    let place = got.iter().zip(wanted).position(|(a, b)| a != b);
-    let place = place.unwrap_or(got.len().min(wanted.len()));
-    (got.len(), Some(place))
-}
-
 // The spelling of what is left of this answer.
 fn narrowed(alloc: Global, version: i16, broker: Vec<u8>) -> Result<Bytes, Fail> {
     let size = broker.len() as u64;
@@ -53,30 +41,16 @@ fn narrowed(alloc: Global, version: i16, broker: Vec<u8>) -> Result<Bytes, Fail>
     Ok(encode(alloc, &narrow(alloc, body)?, size)?)
 }
 
+// With the throttle time of version 2 and without it.
 #[test]
 fn answers_of_any_length_are_narrowed(rt: HostRuntime) -> Result<(), Fail> {
     for entries in ENTRIES {
-        let broker = said(rt.alloc(), entries, &[])?;
-        let wanted = passed(rt.alloc(), entries, &[])?;
-        let got = narrowed(rt.alloc(), 0, broker)?;
-        assert_eq!(rt;
-            (entries, found(got.as_slice(), wanted.as_slice())),
-            (entries, (wanted.len(), None))
-        );
-    }
-    Ok(())
-}
-
-#[test]
-fn answers_of_any_length_keep_the_throttle_time(rt: HostRuntime) -> Result<(), Fail> {
-    for entries in ENTRIES {
-        let broker = said(rt.alloc(), entries, &[0, 0, 0, 7])?;
-        let wanted = passed(rt.alloc(), entries, &[0, 0, 0, 7])?;
-        let got = narrowed(rt.alloc(), 2, broker)?;
-        assert_eq!(rt;
-            (entries, found(got.as_slice(), wanted.as_slice())),
-            (entries, (wanted.len(), None))
-        );
+        for (version, rest) in [(0, [].as_slice()), (2, [0, 0, 0, 7].as_slice())] {
+            let broker = said(rt.alloc(), entries, rest)?;
+            let wanted = passed(rt.alloc(), entries, rest)?;
+            let got = narrowed(rt.alloc(), version, broker)?;
+            assert!(rt; got.as_slice() == wanted.as_slice(), "{entries}, {version}");
+        }
     }
     Ok(())
 }
