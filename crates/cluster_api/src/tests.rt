@@ -1,44 +1,62 @@
-//! Messages from bytes to structs and back, and structs without a body.
+//! Fields that come with one version: each but the first, alone.
+use crate::*;
 use bytes::Bytes;
-use std::alloc::Global;
-use std::fmt::Debug;
-use std::process::Abort;
 use std::test::*;
-use tree_codec::{decode, encode};
-use views::View;
+use views::{View, ViewFault};
 
-mod api_versions;
-mod create_topics;
-mod delete_topics;
-mod faults;
-mod find_coordinator;
-mod metadata;
+fn misplaced(field: u16) -> Option<ViewFault> {
+    Some(ViewFault::Misplaced { field })
+}
 
-// Messages of the versions from the first to the last: the bytes, the struct's fields in words, and for other versions the
-// number of the first field that doesn't fit.
-type Row = (
-    (i16, i16),
-    &'static [u8],
-    &'static str,
-    &'static [(i16, u16)],
-);
+#[test]
+fn an_error_message_comes_with_version_1(rt: HostRuntime) -> Result<(), Fail> {
+    for (version, throttle_time_ms, error_message) in [
+        (0, None, Some(None)),
+        (1, Some(0), None),
+        (2, Some(0), None),
+    ] {
+        let view = FindCoordinatorResponse {
+            version,
+            throttle_time_ms,
+            error_code: 0,
+            error_message,
+            node_id: 1,
+            host: Some(Bytes::from_static(b"k")),
+            port: 9092,
+        };
+        assert!(rt; view.body(rt.alloc()).err() == misplaced(2));
+    }
+    Ok(())
+}
 
-// The struct of a message, whose body is the same bytes.
-fn there_and_back<V: View + Debug>(
-    rt: &impl Abort,
-    alloc: Global,
-    version: i16,
-    bytes: &'static [u8],
-    fields: &'static str,
-) -> Result<V, Fail> {
-    let body = decode(alloc, V::KEY, version, V::DIR, Bytes::from_static(bytes));
-    let body = body.ok().ok_or("a body")?;
-    let view = V::of(alloc, &body).ok().ok_or("a view")?;
-    let words = format!(in alloc; "{view:?}")?;
-    assert!(rt; words.as_str().ends_with(fields), "{words}");
-    assert_eq!(rt; view.version(), version);
-    let body = view.body(alloc).ok().ok_or("the body")?;
-    let spelled = encode(alloc, &body, 4096).ok().ok_or("the bytes")?;
-    assert!(rt; spelled.as_slice() == bytes);
-    Ok(view)
+#[test]
+fn operations_of_topics_are_asked_for_in_version_8(rt: HostRuntime) -> Result<(), Fail> {
+    for (version, cluster, topic) in [(7, None, Some(1)), (8, Some(1), None)] {
+        let view = MetadataRequest {
+            version,
+            topics: None,
+            allow_auto_topic_creation: Some(0),
+            include_cluster_authorized_operations: cluster,
+            include_topic_authorized_operations: topic,
+        };
+        assert!(rt; view.body(rt.alloc()).err() == misplaced(4));
+    }
+    Ok(())
+}
+
+#[test]
+fn operations_of_the_cluster_come_with_version_8(rt: HostRuntime) -> Result<(), Fail> {
+    for (version, cluster) in [(7, Some(1)), (8, None)] {
+        let view = MetadataResponse {
+            version,
+            throttle_time_ms: Some(0),
+            brokers: None,
+            cluster_id: Some(None),
+            controller_id: 1,
+            topics: None,
+            cluster_authorized_operations: cluster,
+        };
+        assert!(rt; view.body(rt.alloc()).err() == misplaced(24));
+    }
+    Ok(())
 }
