@@ -46,6 +46,7 @@ fn an_address_has_a_host_without_a_colon(rt: HostRuntime) {
         ] {
             let at = plan(&rt, alloc, "x", bootstrap, node);
             let list = vec![in alloc; at].expect(&rt, "memory");
+            assert_eq!(rt; list.len(), 1);
             let fault = Plans::new(list).err();
             assert_eq!(rt;
                 (host, fault),
@@ -66,6 +67,7 @@ fn a_plan_is_found_by_its_name(rt: HostRuntime) {
         ("AB", false),
     ] {
         let list = vec![in alloc; plan(&rt, alloc, "ab", "k", "k")].expect(&rt, "memory");
+        assert_eq!(rt; list.len(), 1);
         let plans = Plans::new(list).ok().expect(&rt, "no fault");
         let number = if is_found { Some(0) } else { None };
         assert_eq!(rt; (name, plans.named(name.as_bytes())), (name, number));
