@@ -6,7 +6,7 @@ use std::alloc::{AllocError, Global};
 use std::test::*;
 use wire_types::Writer;
 
-const SIZES: [usize; 6] = [0, 1, 3, 1_000, 65_537, 3_000_003];
+const SIZES: [usize; 6] = [0, 1, 3, 1_000, 65_537, 1_048_577];
 
 const PART: [u8; 16] = *b"\x00\x01\x0f\x10\x7f\x80\xff\xf0\x2d\x0a\x20\xab\xcd\xef\x5a\xa5";
 
