@@ -90,89 +90,12 @@ fn a_file_that_holds(rt: HostRuntime) -> Result<(), Fail> {
     Ok(())
 }
 
-// One change of the file, the line, and the status.
-const CHANGES: &[(&str, &str, &str, Status)] = &[
-    (
-        "version = 1",
-        "version = 3",
-        "refused bad-value version\n",
-        Status::Refused,
-    ),
-    (
-        "port = 19092\n",
-        "",
-        "refused missing 0 port\n",
-        Status::Refused,
-    ),
-    (
-        "port = 19092",
-        "port = \"x\"",
-        "refused wrong-type 0 port\n",
-        Status::Refused,
-    ),
-    (
-        "port = 19092",
-        "port = 65536",
-        "refused bad-value 0 port\n",
-        Status::Refused,
-    ),
-    ("port = 19092", "port = 65533", "ok 1\n", Status::Done),
-    (
-        "port = 19092",
-        "port = 65534",
-        "refused port-range 0\n",
-        Status::Refused,
-    ),
-    (
-        "name = \"alpha\"",
-        "name = \"\"",
-        "refused bad-limit 0 name\n",
-        Status::Refused,
-    ),
-    (
-        "prefix = ",
-        "filters = [\"nope\"]\nprefix = ",
-        "refused unknown-filter 0 nope\n",
-        Status::Refused,
-    ),
-    (
-        "\"alpha-\"\n",
-        "\"alpha-\"\ncolour = 1\n",
-        "refused unknown-key 0 colour\n",
-        Status::Refused,
-    ),
-];
-
-#[test]
-fn a_file_with_one_change(rt: HostRuntime) -> Result<(), Fail> {
-    for (from, to, want, status) in CHANGES {
-        let file = changed(rt.alloc(), from, to)?;
-        let (found, text) = ran_over(rt.alloc(), &["check", "f"], file.as_str(), &WELL)?;
-        assert_eq!(rt; text.as_str(), *want, "{from} -> {to}");
-        assert_eq!(rt; found, *status, "{from} -> {to}");
-    }
-    for (file, want) in [
-        ("", "refused missing version\n"),
-        ("version =", "refused not-toml\n"),
-    ] {
-        for word in ["check", "plan"] {
-            let (found, text) = ran_over(rt.alloc(), &[word, "f"], file, &WELL)?;
-            assert_eq!(rt; text.as_str(), want, "{word} of {file:?}");
-            assert_eq!(rt; found, Status::Refused, "{word} of {file:?}");
-        }
-    }
-    Ok(())
-}
-
 #[test]
 fn two_clusters_on_one_broker(rt: HostRuntime) -> Result<(), Fail> {
     let clash = "refused prefix-clash 0 1\n";
     let table = [
         ("prefix = \"a-\"\n", "prefix = \"a-b-\"\n", clash),
-        ("prefix = \"a-b-\"\n", "prefix = \"a-\"\n", clash),
         ("prefix = \"a-\"\n", "", clash),
-        ("", "prefix = \"a-\"\n", clash),
-        ("prefix = \"a-\"\n", "prefix = \"b-\"\n", "ok 2\n"),
         ("", "", "ok 2\n"),
     ];
     for (first, second, want) in table {
