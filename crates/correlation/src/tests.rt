@@ -2,7 +2,6 @@
 use crate::{AnswerRefusal, Owner, Sends};
 use bytes::Bytes;
 use std::alloc::Global;
-use std::test::Fail;
 
 #[derive(Clone, Copy, Debug)]
 enum Call {
@@ -51,7 +50,7 @@ const OWNERS: [Owner; 4] = [
 ];
 
 // From the first send on: each call, what it tells, how many sends wait for an answer then, and the next id.
-const FROM_THE_FIRST: [(Call, Told, u64, i32); 15] = [
+const FROM_THE_FIRST: &[(Call, Told, u64, i32)] = &[
     (Call::Take, Told::Nothing, 0, 0),
     (
         Call::Answer(0),
@@ -97,7 +96,7 @@ const FROM_THE_FIRST: [(Call, Told, u64, i32); 15] = [
 ];
 
 // The ids begin anew behind 2^31 - 1, and go on at 0.
-const AT_THE_LAST_ID: [(Call, Told, u64, i32); 8] = [
+const AT_THE_LAST_ID: &[(Call, Told, u64, i32)] = &[
     (Call::Push(0), Told::Number(2_147_483_647), 0, 0),
     (Call::Push(1), Told::Number(2_147_483_648), 0, 1),
     (Call::Push(2), Told::Number(2_147_483_649), 0, 2),
@@ -109,7 +108,7 @@ const AT_THE_LAST_ID: [(Call, Told, u64, i32); 8] = [
 ];
 
 // The last number of all, and none behind it.
-const AT_THE_LAST_NUMBER: [(Call, Told, u64, i32); 4] = [
+const AT_THE_LAST_NUMBER: &[(Call, Told, u64, i32)] = &[
     (Call::Push(0), Told::Number(u64::MAX - 1), 0, i32::MAX),
     (Call::Push(2), Told::NoMemory, 0, i32::MAX),
     (Call::Take, Told::Frame(0), 1, i32::MAX),
@@ -152,85 +151,50 @@ fn with_so_many(alloc: Global, count: u64) -> Sends {
     sends
 }
 
-#[test]
-fn sends_and_their_answers(rt: HostRuntime) -> Result<(), Fail> {
-    let mut sends = Sends::new(rt.alloc());
-    for (at, (call, told, waiting, next)) in FROM_THE_FIRST.into_iter().enumerate() {
-        assert_eq!(rt;
-            called(rt.alloc(), &mut sends, call),
-            Some(told),
-            "call {at}"
-        );
-        assert_eq!(rt;
-            (sends.waiting(), sends.next_id()),
-            (waiting, next),
-            "after call {at}"
-        );
+// The first of these calls that tells something else, in a connection that had so many sends.
+fn wrong_call(alloc: Global, count: u64, calls: &[(Call, Told, u64, i32)]) -> Option<usize> {
+    let mut sends = with_so_many(alloc, count);
+    for (at, (call, told, waiting, next)) in calls.iter().enumerate() {
+        let got = called(alloc, &mut sends, *call);
+        if got != Some(*told) || (sends.waiting(), sends.next_id()) != (*waiting, *next) {
+            return Some(at);
+        }
     }
-    Ok(())
+    None
 }
 
 #[test]
-fn ids_begin_anew(rt: HostRuntime) -> Result<(), Fail> {
-    let mut sends = with_so_many(rt.alloc(), 2_147_483_647);
-    assert_eq!(rt; sends.next_id(), i32::MAX);
-    for (at, (call, told, waiting, next)) in AT_THE_LAST_ID.into_iter().enumerate() {
-        assert_eq!(rt;
-            called(rt.alloc(), &mut sends, call),
-            Some(told),
-            "call {at}"
-        );
-        assert_eq!(rt;
-            (sends.waiting(), sends.next_id()),
-            (waiting, next),
-            "after call {at}"
-        );
+fn sends_and_their_answers(rt: HostRuntime) {
+    for (count, calls) in [
+        (0, FROM_THE_FIRST),
+        (2_147_483_647, AT_THE_LAST_ID),
+        (u64::MAX - 1, AT_THE_LAST_NUMBER),
+    ] {
+        let wrong = wrong_call(rt.alloc(), count, calls);
+        assert_eq!(rt; wrong, None, "behind {count} sends");
     }
-    Ok(())
+}
+
+// Whether so many that wait at once are taken and answered in their order.
+fn are_in_order(alloc: Global, count: u16) -> bool {
+    let mut sends = Sends::new(alloc);
+    let mut right = true;
+    for number in 0..count {
+        let told = called(alloc, &mut sends, Call::Push(0));
+        right = right && told == Some(Told::Number(u64::from(number)));
+    }
+    for _ in 0..count {
+        right = right && called(alloc, &mut sends, Call::Take) == Some(Told::Frame(0));
+    }
+    right = right && sends.waiting() == u64::from(count);
+    for id in 0..count {
+        let told = called(alloc, &mut sends, Call::Answer(i32::from(id)));
+        right = right && told == Some(Told::Whose(0));
+    }
+    right && sends.waiting() == 0
 }
 
 #[test]
-fn numbers_end(rt: HostRuntime) -> Result<(), Fail> {
-    let mut sends = with_so_many(rt.alloc(), u64::MAX - 1);
-    for (at, (call, told, waiting, next)) in AT_THE_LAST_NUMBER.into_iter().enumerate() {
-        assert_eq!(rt;
-            called(rt.alloc(), &mut sends, call),
-            Some(told),
-            "call {at}"
-        );
-        assert_eq!(rt;
-            (sends.waiting(), sends.next_id()),
-            (waiting, next),
-            "after call {at}"
-        );
-    }
-    Ok(())
-}
-
-// Many that wait at once, taken and answered in their order.
-#[test]
-fn many_sends(rt: HostRuntime) -> Result<(), Fail> {
-    let mut sends = Sends::new(rt.alloc());
-    for number in 0..10_000 {
-        assert_eq!(rt;
-            called(rt.alloc(), &mut sends, Call::Push(0)),
-            Some(Told::Number(number))
-        );
-    }
-    for _ in 0..10_000 {
-        assert_eq!(rt;
-            called(rt.alloc(), &mut sends, Call::Take),
-            Some(Told::Frame(0))
-        );
-    }
-    assert_eq!(rt; sends.waiting(), 10_000);
-    for id in 0..10_000 {
-        assert_eq!(rt;
-            called(rt.alloc(), &mut sends, Call::Answer(id)),
-            Some(Told::Whose(0)),
-            "id {id}"
-        );
-    }
-    assert_eq!(rt; sends.waiting(), 0);
-    Ok(())
+fn many_sends(rt: HostRuntime) {
+    assert!(rt; are_in_order(rt.alloc(), 10_000));
 }

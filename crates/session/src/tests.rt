@@ -29,21 +29,6 @@ struct Case {
 
 const CASES: &[Case] = &[
     Case {
-        name: "a frame in one piece",
-        calls: &[(Call::Client(b"\0\0\0\x08request+"), "fine")],
-        notes: "take request+; ",
-    },
-    Case {
-        name: "a frame in three pieces",
-        calls: &[
-            (Call::Client(b"\0\0"), "fine"),
-            (Call::Client(b"\0\x08requ"), "fine"),
-            (Call::Client(b""), "fine"),
-            (Call::Client(b"est+"), "fine"),
-        ],
-        notes: "take request+; ",
-    },
-    Case {
         name: "two frames and a half in one piece",
         calls: &[
             (
@@ -68,18 +53,6 @@ const CASES: &[Case] = &[
             (Call::Retake, "fine"),
         ],
         notes: "take request=; take request=; take request=; take request=; take request1+; take request2+; ",
-    },
-    Case {
-        name: "a refused frame, and one behind it",
-        calls: &[
-            (
-                Call::Client(b"\0\0\0\x08request-\0\0\0\x08request+"),
-                "closed",
-            ),
-            (Call::Client(b"\0\0\0\x08request+"), "fine"),
-            (Call::Client(b"\0"), "fine"),
-        ],
-        notes: "take request-; take request+; take request+; ",
     },
     Case {
         name: "a full frame behind a refused one",
@@ -112,28 +85,6 @@ const CASES: &[Case] = &[
             (Call::Retake, "fine"),
         ],
         notes: "take request!; take request+; client end 0; ",
-    },
-    Case {
-        name: "the client's sizes: one too small, at the front",
-        calls: &[
-            (Call::Client(b"\0\0\0\x07"), "fine"),
-            (Call::Client(b"\0"), "fine"),
-            (Call::ClientEnd, "fine"),
-        ],
-        notes: "client bad size 7 at 0; client end 5; ",
-    },
-    Case {
-        name: "the client's sizes: one below zero, behind a frame",
-        calls: &[(Call::Client(b"\0\0\0\x08request+\xff\xff\xff\xff"), "fine")],
-        notes: "take request+; client bad size -1 at 12; ",
-    },
-    Case {
-        name: "the client's sizes: the greatest",
-        calls: &[
-            (Call::Client(b"\x06\x40\0\0"), "fine"),
-            (Call::ClientEnd, "fine"),
-        ],
-        notes: "client end 4; ",
     },
     Case {
         name: "the client's sizes: one too great",
@@ -195,34 +146,9 @@ const CASES: &[Case] = &[
         notes: "answer res!; answer res+; ",
     },
     Case {
-        name: "the broker's sizes: one too small",
-        calls: &[
-            (Call::Broker(b"\0\0\0\x03"), "fine"),
-            (Call::Broker(b"\0"), "fine"),
-            (Call::BrokerEnd, "fine"),
-        ],
-        notes: "broker bad size 3 at 0; broker end 5; ",
-    },
-    Case {
-        name: "the broker's sizes: the greatest",
-        calls: &[(Call::Broker(b"\x08\0\0\0"), "fine")],
-        notes: "",
-    },
-    Case {
         name: "the broker's sizes: one too great, behind a frame",
         calls: &[(Call::Broker(b"\0\0\0\x04res+\x08\0\0\x01"), "fine")],
         notes: "answer res+; broker bad size 134217729 at 8; ",
-    },
-    Case {
-        name: "the two streams are apart",
-        calls: &[
-            (Call::Client(b"\0\0\0\x08req"), "fine"),
-            (Call::Broker(b"\0\0\0\x04r"), "fine"),
-            (Call::Client(b"uest+"), "fine"),
-            (Call::BrokerEnd, "fine"),
-            (Call::Client(b"\0\0\0\x08request+"), "fine"),
-        ],
-        notes: "take request+; broker end 5; take request+; ",
     },
     Case {
         name: "verdicts",

@@ -57,7 +57,7 @@ fn stream_of(alloc: Global, row: Row, word: &[u8]) -> Result<(Vec<u8>, Vec<u8>),
     Ok((stream, notes))
 }
 
-const CLIENT: [Row; 8] = [
+const ROWS: [Row; 8] = [
     (1, 8, 1),
     (1, 9, 13),
     (1_000, 8, 5),
@@ -68,49 +68,48 @@ const CLIENT: [Row; 8] = [
     (1, 3_145_728, 1_048_576),
 ];
 
+fn given_piece(
+    station: &mut Station<Noting>,
+    of_client: bool,
+    piece: &[u8],
+) -> Result<Told, NoMemory> {
+    let mut steps = Steps::<()>::new();
+    if of_client {
+        station.client(piece, &mut steps)
+    } else {
+        station.broker(piece, &mut steps)
+    }
+}
+
+// What is noted of this row's frames, where a piece isn't fine or another thing is noted.
+fn noted_otherwise(alloc: Global, row: Row, of_client: bool) -> Result<Option<Noted>, AllocError> {
+    let mut station = Station::new(alloc, Noting::new(alloc));
+    let word: &[u8] = if of_client { b"take " } else { b"answer " };
+    let (stream, wanted) = stream_of(alloc, row, word)?;
+    let mut fine = true;
+    for piece in stream.as_slice().chunks(row.2.max(1)) {
+        let told = given_piece(&mut station, of_client, piece);
+        fine = fine && told == Ok(Told::Fine);
+    }
+    let found = noted(&mut station, wanted.as_slice());
+    let right = fine && found == Some((wanted.len(), None));
+    Ok((!right).then_some(found))
+}
+
 #[test]
 fn many_frames_and_long_ones_of_the_client(rt: HostRuntime) -> Result<(), Fail> {
-    let mut steps = Steps::<()>::new();
-    for row in CLIENT {
-        let mut station = Station::new(rt.alloc(), Noting::new(rt.alloc()));
-        let (stream, wanted) = stream_of(rt.alloc(), row, b"take ")?;
-        for piece in stream.as_slice().chunks(row.2.max(1)) {
-            let told = station.client(piece, &mut steps);
-            assert_eq!(rt; (row, told), (row, Ok(Told::Fine)));
-        }
-        assert_eq!(rt;
-            (row, noted(&mut station, wanted.as_slice())),
-            (row, Some((wanted.len(), None)))
-        );
+    for row in ROWS {
+        let wrong = noted_otherwise(rt.alloc(), row, true)?;
+        assert_eq!(rt; (row, wrong), (row, None));
     }
     Ok(())
 }
 
-const BROKER: [Row; 8] = [
-    (1, 4, 1),
-    (1, 5, 9),
-    (1_000, 4, 3),
-    (20_000, 5, 180_000),
-    (1, 65_537, 65_536),
-    (3, 1_048_577, 3_145_743),
-    (1, 3_000_003, 70_001),
-    (1, 3_145_728, 1_048_576),
-];
-
 #[test]
 fn many_frames_and_long_ones_of_the_broker(rt: HostRuntime) -> Result<(), Fail> {
-    let mut steps = Steps::<()>::new();
-    for row in BROKER {
-        let mut station = Station::new(rt.alloc(), Noting::new(rt.alloc()));
-        let (stream, wanted) = stream_of(rt.alloc(), row, b"answer ")?;
-        for piece in stream.as_slice().chunks(row.2.max(1)) {
-            let told = station.broker(piece, &mut steps);
-            assert_eq!(rt; (row, told), (row, Ok(Told::Fine)));
-        }
-        assert_eq!(rt;
-            (row, noted(&mut station, wanted.as_slice())),
-            (row, Some((wanted.len(), None)))
-        );
+    for row in ROWS {
+        let wrong = noted_otherwise(rt.alloc(), row, false)?;
+        assert_eq!(rt; (row, wrong), (row, None));
     }
     Ok(())
 }
