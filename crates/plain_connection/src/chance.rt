@@ -134,7 +134,7 @@ fn verdict_by_chance(plain: &Plain, random: &mut Random) -> Result<Event, AllocE
 
 fn end_by_chance(plain: &Plain, random: &mut Random) -> Result<Event, AllocError> {
     let rest = random.one_of(3) as u64;
-    Ok(match random.one_of(13) {
+    Ok(match random.one_of(14) {
         0 | 1 => Event::ClientEnd(rest),
         2 | 3 => Event::BrokerEnd(rest),
         4 => Event::Fails(Fault::ClientRead),
@@ -144,6 +144,7 @@ fn end_by_chance(plain: &Plain, random: &mut Random) -> Result<Event, AllocError
         8 => Event::Fails(Fault::ClientBadSize { at: 20, size: -1 }),
         9 => Event::Fails(Fault::BrokerBadSize { at: 8, size: 2 }),
         10 => Event::Fails(Fault::Thread),
+        11 => Event::Fails(Fault::NoMemory),
         _ => {
             let request = hold_by_chance(plain, random)?.0 as u64;
             Event::Fails(Fault::Authority { request })

@@ -76,6 +76,7 @@ fn name_of(end: End) -> &'static str {
         End::BrokerWriteFault => "broker-write-fault",
         End::ClientWriteFault => "client-write-fault",
         End::ThreadRefused => "thread-refused",
+        End::NoMemory => "no-memory",
         _ => "another",
     }
 }

@@ -26,6 +26,10 @@ impl Plain {
     fn next_act(&self) -> Result<Option<Act>, AllocError> {
         let mut free = true;
         for (number, request) in self.requests.iter().enumerate() {
+            // what was passed is done, so it does nothing and holds nothing back
+            if number < self.passed {
+                continue;
+            }
             if !self.is_below_cut(number) {
                 return Ok(None);
             }
@@ -56,7 +60,7 @@ impl Plain {
 
     // Which requests are held, for the counts.
     fn note_holds(&mut self) -> Result<(), AllocError> {
-        for number in 0..self.requests.len() {
+        for number in self.passed..self.requests.len() {
             if self.hold_of(number)?.is_some() {
                 let holds_back = self.holds_back_one(number)?;
                 if let Some(request) = self.requests.get_mut(number) {

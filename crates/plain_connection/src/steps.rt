@@ -210,7 +210,7 @@ impl Plain {
         if self.is_still() {
             return Ok(Reply::Nothing);
         }
-        for number in 0..self.requests.len() {
+        for number in self.passed..self.requests.len() {
             if let Some(index) = self.hold_of(number)? {
                 if !self.picked.iter().any(|hold| *hold == (number, index)) {
                     self.picked.push((number, index))?;
