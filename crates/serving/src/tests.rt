@@ -1,11 +1,5 @@
 // What no clause says: that memory suffices, and the bytes of whole exchanges, over a small service.
-use self::by_broker::BROKER;
-use self::by_cuts::CUTS;
-use self::by_ends::{ENDS, EVENTS, Event, STATES};
-use self::by_holds::HOLDS;
-use self::by_order::IN_ORDER;
-use self::by_room::{AT_ONE, AT_SIXTY_FOUR, AT_TWO};
-use self::by_silence::SILENT;
+use self::by_rule::{AT_ONE, AT_SIXTY_FOUR, RULES};
 use self::trial::Trial;
 use crate::Serving;
 use bytes::Bytes;
@@ -14,14 +8,8 @@ use kp_edge::{Blob, End, Steps};
 use std::alloc::{AllocError, Global};
 use std::test::Fail;
 
-mod by_broker;
-mod by_cuts;
-mod by_ends;
-mod by_holds;
 mod by_memory;
-mod by_order;
-mod by_room;
-mod by_silence;
+mod by_rule;
 mod trial;
 
 #[derive(Clone, Copy)]
@@ -245,65 +233,9 @@ fn wrong_script(
 
 #[test]
 fn scripts_are_answered(rt: HostRuntime) -> Result<(), Fail> {
-    for (in_flight, scripts) in [
-        (64, IN_ORDER),
-        (64, HOLDS),
-        (64, SILENT),
-        (64, CUTS),
-        (64, ENDS),
-        (64, BROKER),
-        (1, AT_ONE),
-        (2, AT_TWO),
-        (64, AT_SIXTY_FOUR),
-    ] {
+    for (in_flight, scripts) in [(64, RULES), (1, AT_ONE), (2, AT_TWO), (64, AT_SIXTY_FOUR)] {
         if let Some((name, i, want, got)) = wrong_script(rt.alloc(), in_flight, scripts)? {
             assert!(rt; false, "{name}, line {i}: wanted {want:?}, got {got:?}");
-        }
-    }
-    Ok(())
-}
-
-// What a core in the state that these lines lead to answers otherwise to this event and to the emit behind it.
-fn wrong_emit(
-    alloc: Global,
-    lines: &[(Line, Want)],
-    event: Line,
-    emit: Want,
-) -> Result<Option<(Want, Got)>, AllocError> {
-    let Some(mut core) = opened(alloc, 64) else {
-        return Ok(Some((Told::Fine, Told::Nothing)));
-    };
-    if let Some((_, want, got)) = wrong_line(alloc, &mut core, lines)? {
-        return Ok(Some((want, got)));
-    }
-    match wrong_line(alloc, &mut core, &[(event, Told::Fine), (Line::Emit, emit)])? {
-        Some((_, want, got)) => Ok(Some((want, got))),
-        None => Ok(None),
-    }
-}
-
-// The first state in which this event is answered otherwise: its name, what was wanted and what was got.
-fn wrong_state(
-    alloc: Global,
-    event: &Event,
-) -> Result<Option<(&'static str, Want, Got)>, AllocError> {
-    for (i, (name, lines)) in STATES.iter().enumerate() {
-        let Some(emit) = event.emits.get(i) else {
-            return Ok(Some((*name, Told::Fine, Told::Nothing)));
-        };
-        if let Some((want, got)) = wrong_emit(alloc, lines, event.line, *emit)? {
-            return Ok(Some((*name, want, got)));
-        }
-    }
-    Ok(None)
-}
-
-#[test]
-fn ends_and_faults_in_every_state(rt: HostRuntime) -> Result<(), Fail> {
-    for event in EVENTS {
-        if let Some((state, want, got)) = wrong_state(rt.alloc(), event)? {
-            let name = event.name;
-            assert!(rt; false, "{name}, {state}: wanted {want:?}, got {got:?}");
         }
     }
     Ok(())
