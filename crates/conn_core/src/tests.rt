@@ -1,12 +1,7 @@
 // What no clause says: that memory suffices, and the bytes of whole exchanges. Most frames are those of the protocol
 // guide's Heartbeat, version 0.
-use self::by_bodies::{BAD_ANSWERS, BAD_BODIES, READ};
 use self::by_chains::{ASKED_ASIDE, CHANGED, SHUT};
-use self::by_ends::{ENDS, FAILED, VERDICTS};
-use self::by_holds::HOLDS;
-use self::by_requests::{ANSWERS, IN_ORDER, NO_REQUESTS, TOLD};
-use self::by_room::{AT_ONE, AT_SIXTY_FOUR, LOOKS};
-use self::by_silence::SILENT;
+use self::by_kind::{AT_ONE, KINDS};
 use crate::{AnswerFault, CompleteFault, Connection, Core, Emit, Fault, Look, TakeFault, Ticket};
 use bytes::Bytes;
 use filter_core::Filter;
@@ -15,20 +10,13 @@ use kp_edge::{Blob, End, Steps};
 use std::alloc::{AllocError, Global};
 use std::test::Fail;
 
-mod by_bodies;
 mod by_chains;
-mod by_ends;
-mod by_holds;
-mod by_requests;
-mod by_room;
-mod by_silence;
+mod by_kind;
 mod by_sizes;
 
 #[derive(Clone, Copy)]
 enum Line {
     Client(&'static [u8]),
-    // the same frame so many times
-    Clients(u32, &'static [u8]),
     // a request for ListGroups, whose body is empty: its client id has this length, and behind it stand so many bytes
     ClientId(i16, u32),
     Broker(&'static [u8]),
@@ -166,23 +154,6 @@ fn takes<F: Filter + Drop>(core: &mut Core<F>, frame: Bytes) -> Got {
     taken(core.take(frame, &mut Steps::<Counted>::new()))
 }
 
-// The first of so many frames that isn't taken, or the last.
-fn takes_many<F: Filter + Drop>(
-    alloc: Global,
-    core: &mut Core<F>,
-    times: u32,
-    frame: &[u8],
-) -> Result<Got, AllocError> {
-    let mut got = Told::Nothing;
-    for _ in 0..times {
-        got = takes(core, Bytes::copy_from_slice(alloc, frame)?);
-        if !is_wanted(&got, Told::Fine) {
-            break;
-        }
-    }
-    Ok(got)
-}
-
 fn with_client_id(alloc: Global, length: i16, bytes: u32) -> Result<Bytes, AllocError> {
     let mut frame = Vec::new(alloc);
     frame.extend_from_slice(b"\0\x10\0\0\0\0\0\x07")?;
@@ -201,7 +172,6 @@ fn reply_to<F: Filter + Drop>(
 ) -> Result<Got, AllocError> {
     match line {
         Line::Client(bytes) => Ok(takes(core, Bytes::copy_from_slice(alloc, bytes)?)),
-        Line::Clients(times, bytes) => takes_many(alloc, core, times, bytes),
         Line::ClientId(length, bytes) => Ok(takes(core, with_client_id(alloc, length, bytes)?)),
         Line::Broker(bytes) => {
             let frame = Bytes::copy_from_slice(alloc, bytes)?;
@@ -283,54 +253,17 @@ fn wrong_reply<F: Filter + Drop>(
     Ok(None)
 }
 
-// The first script of the table that a core without filters answers otherwise: its name, the line, what was wanted and what was got.
-fn wrong_script(
-    alloc: Global,
-    in_flight: u32,
-    scripts: &[(&'static str, &[(Line, Want)])],
-) -> Result<Option<(&'static str, usize, Option<Want>, Got)>, AllocError> {
-    for (name, lines) in scripts {
-        if let Some((i, got)) = wrong_line(alloc, &[], in_flight, lines)? {
-            return Ok(Some((*name, i, lines.get(i).map(|line| line.1), got)));
-        }
-    }
-    Ok(None)
-}
-
 #[test]
 fn scripts_are_answered(rt: HostRuntime) -> Result<(), Fail> {
-    for scripts in [
-        IN_ORDER,
-        TOLD,
-        NO_REQUESTS,
-        ANSWERS,
-        READ,
-        BAD_BODIES,
-        BAD_ANSWERS,
-        ENDS,
-        FAILED,
-        VERDICTS,
-        LOOKS,
-        AT_SIXTY_FOUR,
+    for (in_flight, scripts) in [
+        (64, KINDS),
+        (64, CHANGED),
+        (64, SHUT),
+        (64, ASKED_ASIDE),
+        (1, AT_ONE),
     ] {
-        if let Some((name, i, want, got)) = wrong_script(rt.alloc(), 64, scripts)? {
-            assert!(rt; false, "{name}, line {i}: wanted {want:?}, got {got:?}");
-        }
-    }
-    if let Some((name, i, want, got)) = wrong_script(rt.alloc(), 1, AT_ONE)? {
-        assert!(rt;
-            false,
-            "one in flight, {name}, line {i}: wanted {want:?}, got {got:?}"
-        );
-    }
-    Ok(())
-}
-
-#[test]
-fn chains_are_answered(rt: HostRuntime) -> Result<(), Fail> {
-    for scripts in [CHANGED, SHUT, ASKED_ASIDE, HOLDS, SILENT] {
         for (name, chain, lines) in scripts {
-            if let Some((i, got)) = wrong_line(rt.alloc(), chain, 64, lines)? {
+            if let Some((i, got)) = wrong_line(rt.alloc(), chain, in_flight, lines)? {
                 let want = lines.get(i).map(|line| line.1);
                 assert!(rt; false, "{name}, line {i}: wanted {want:?}, got {got:?}");
             }

@@ -41,16 +41,6 @@ pub(crate) const CHANGED: &[Script] = &[
         ],
     ),
     (
-        "what isn't named passes as it came",
-        &[Turns(0), Turns(1), Turns(3)],
-        &[
-            (Line::Client(L7), Told::Fine),
-            (Line::Send, Told::Bytes(L0_SIZED)),
-            (Line::Broker(ANSWER_L0), Told::Fine),
-            (Line::Emit, Told::Bytes(L7_ANSWERED)),
-        ],
-    ),
-    (
         "answered at once",
         &[Turns(1)],
         &[
@@ -67,15 +57,6 @@ pub(crate) const CHANGED: &[Script] = &[
             (Line::Client(H7), Told::Fine),
             (Line::Send, Told::Nothing),
             (Line::Emit, Told::Bytes(b"\0\0\0\x06\0\0\0\x07\0\x4d")),
-        ],
-    ),
-    (
-        "and not those nearer the broker",
-        &[Turns(1), Turns(0)],
-        &[
-            (Line::Client(H7), Told::Fine),
-            (Line::Send, Told::Nothing),
-            (Line::Emit, Told::Bytes(b"\0\0\0\x06\0\0\0\x07\0\x37")),
         ],
     ),
     (
@@ -138,21 +119,6 @@ pub(crate) const SHUT: &[Script] = &[
                     request: 1,
                     filter: 0,
                     code: 3,
-                }),
-            ),
-        ],
-    ),
-    (
-        "by the second filter",
-        &[Turns(0), Turns(2)],
-        &[
-            (Line::Client(H7), Told::Fine),
-            (
-                Line::Emit,
-                Told::Over(End::FilterShut {
-                    request: 0,
-                    filter: 1,
-                    code: 7,
                 }),
             ),
         ],
@@ -254,24 +220,6 @@ pub(crate) const ASKED_ASIDE: &[Script] = &[
         ],
     ),
     (
-        "an answer that can't be read",
-        &[Asks(1, 1)],
-        &[
-            (Line::Client(H7), Told::Fine),
-            (Line::Send, Told::Bytes(M0_SIZED)),
-            (Line::Broker(b"\0\0\0\0\0"), Told::Fine),
-            (Line::Send, Told::Nothing),
-            (
-                Line::Emit,
-                Told::Over(End::BrokerBadBody {
-                    request: 0,
-                    key: 3,
-                    version: 4,
-                }),
-            ),
-        ],
-    ),
-    (
         "an answer that can't be read, with a request before and one behind",
         &[Asks(1, 1)],
         &[
@@ -300,20 +248,6 @@ pub(crate) const ASKED_ASIDE: &[Script] = &[
                     version: 4,
                 }),
             ),
-        ],
-    ),
-    (
-        "the client is gone",
-        &[Asks(1, 1)],
-        &[
-            (Line::Client(H7), Told::Fine),
-            (Line::ClientEnd(0), Told::Fine),
-            (Line::Send, Told::Bytes(M0_SIZED)),
-            (Line::Broker(ANSWER_M0), Told::Fine),
-            (Line::Send, Told::Bytes(H1_SIZED)),
-            (Line::Broker(A1), Told::Fine),
-            (Line::Emit, Told::Bytes(A7_SIZED)),
-            (Line::Emit, Told::Over(End::Ended)),
         ],
     ),
 ];

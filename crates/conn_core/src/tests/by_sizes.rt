@@ -1,18 +1,8 @@
 // The budget of asks, and the greatest frames that go out.
 use super::Filters::Asks;
 use super::*;
-use crate::envelope::Envelope;
-use crate::telling::tell;
-use filter_chain::{Run, State};
 use filter_probes::{Grows, Growth};
-use kp_edge::NoMemory;
-use kp_schema::Dir;
-use serving::{Cause, Progress};
 use std::process::Abort;
-use tree_codec::{Body, Builder, Primitive};
-
-// 128 times as many are the greatest frame.
-const MILLION: usize = 1_048_576;
 
 // Answers each send that comes, from this upstream id on. The number of them.
 fn answers_all(alloc: Global, core: &mut Core<Probe>, first_id: u32) -> Result<u32, AllocError> {
@@ -85,86 +75,6 @@ fn an_earlier_request_is_open_at_the_budget(rt: HostRuntime) -> Result<(), Fail>
     let got = emitted(core.emit());
     let wanted = Told::Over(End::AskBudget { request: 0 });
     assert!(rt; is_wanted(&got, wanted), "got {got:?}");
-    Ok(())
-}
-
-// A million bytes.
-fn million(alloc: Global) -> Result<Bytes, AllocError> {
-    Ok(Bytes::from_vec(vec![in alloc; 0u8; MILLION]?)?)
-}
-
-// The first of them.
-fn first_of(bytes: &Bytes, count: u64) -> Result<Bytes, AllocError> {
-    let end = (count as usize).min(bytes.len());
-    bytes.slice(0..end)
-}
-
-// A SyncGroup request, version 0, of so many bytes, with 128 assignments of a million bytes or less. They share their
-// bytes, so little memory is taken.
-fn sync_group(alloc: Global, size: u64) -> Result<Body, AllocError> {
-    let shared = million(alloc)?;
-    let mut left = size.saturating_sub(14);
-    let mut out = Builder::new(alloc, 14, 0, Dir::Request);
-    let _ = out.push(Primitive::Text(Some(Bytes::from_static(b"g"))));
-    let _ = out.push(Primitive::Int32(1));
-    let _ = out.push(Primitive::Text(Some(Bytes::from_static(b"m"))));
-    let _ = out.push(Primitive::Count(Some(128)));
-    for entry in 0..128u64 {
-        // what the other entries take with their lengths at least
-        let others = 6 * (127 - entry);
-        let own = left.saturating_sub(6 + others).min(MILLION as u64);
-        let _ = out.push(Primitive::Text(Some(Bytes::from_static(b""))));
-        let _ = out.push(Primitive::Binary(Some(first_of(&shared, own)?)));
-        left = left.saturating_sub(6).saturating_sub(own);
-    }
-    match out.finish() {
-        Ok(body) => Ok(body),
-        Err(_) => Err(AllocError),
-    }
-}
-
-fn envelope(alloc: Global) -> Envelope {
-    Envelope {
-        alloc,
-        correlation_id: [0, 0, 0, 7],
-        client_id: Bytes::from_static(b"\xff\xff"),
-        silent: false,
-    }
-}
-
-// What is told of a message, or of a response, with a body of this size: the length of what goes out, or the end.
-fn told_of_size(alloc: Global, size: u64, sends: bool) -> Result<Result<usize, Cause>, NoMemory> {
-    let body = sync_group(alloc, size)?;
-    if body.size() != size {
-        return Err(NoMemory);
-    }
-    let state = if sends {
-        let chain: Vec<Probe> = Vec::new(alloc);
-        Run::start(alloc, chain.as_slice(), body, &mut Steps::<Counted>::new())?
-    } else {
-        State::Done(Some(body))
-    };
-    match tell(envelope(alloc), state)? {
-        Progress::Sends(message, _) => Ok(Ok(message.draft.len() - 12)),
-        Progress::Done(Some(response)) => Ok(Ok(response.bytes.len())),
-        Progress::Failed(cause) => Ok(Err(cause)),
-        _ => Err(NoMemory),
-    }
-}
-
-#[test]
-fn frames_that_go_out_have_a_limit(rt: HostRuntime) -> Result<(), Fail> {
-    let grown = Err(Cause::GrownPast { size: 134_217_729 });
-    assert_eq!(rt;
-        told_of_size(rt.alloc(), 134_217_718, true)?,
-        Ok(134_217_720)
-    );
-    assert_eq!(rt; told_of_size(rt.alloc(), 134_217_719, true)?, grown);
-    assert_eq!(rt;
-        told_of_size(rt.alloc(), 134_217_724, false)?,
-        Ok(134_217_732)
-    );
-    assert_eq!(rt; told_of_size(rt.alloc(), 134_217_725, false)?, grown);
     Ok(())
 }
 
