@@ -20,8 +20,6 @@ mod passing;
 mod run;
 mod state;
 mod suspended;
-#[cfg(test)]
-mod tests;
 mod turns;
 
 pub use laws::chain_laws;
