@@ -1,5 +1,5 @@
 -- Which requests get no response ("The Messages: Produce API").
-use Rattle.std.specs.Prelude.{ℤ, pos, Bool, false, ◌&&◌, List, [], ◌∷◌, Option, Some, None}
+use Rattle.std.specs.Prelude.{ℤ, pos, Bool, false, ◌&&◌, List, ◌∷◌, Option, Some, None}
 use Rattle.std.specs.Ordering.{int_eq}
 use Rattle.tree_spelling.specs.declared.primitive.Primitive.{Primitive}
 use Rattle.tree_spelling.specs.declared.primitive.Primitive.TheVariants.{Int16}

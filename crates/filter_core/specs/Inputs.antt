@@ -1,5 +1,5 @@
 -- What a filter may be given: an answer of the kind that its last decision asked for.
-use Rattle.std.specs.Prelude.{◌≡◌, ℕ, true, List, [], ◌∷◌, ◌++◌}
+use Rattle.std.specs.Prelude.{◌≡◌, true, List, [], ◌∷◌, ◌++◌}
 use Rattle.kp_schema.specs.declared.dir.Dir.TheVariants as dir
 use Rattle.tree_spelling.specs.Body.{Contents, IsTree, IsOf}
 use Rattle.filter_core.specs.declared.input.Input.{Input}

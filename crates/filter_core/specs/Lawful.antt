@@ -1,15 +1,13 @@
 -- Why a filter with two turns keeps the laws. It stands here, and not among the proofs, since the filters cite it as
 -- they are declared.
-use Rattle.std.specs.Prelude.{◌≡◌, ◌≤◌, ℕ, true, List, [], ◌∷◌, ◌++◌, length, Option, Some, None}
+use Rattle.std.specs.Prelude.{◌≡◌, [], ◌∷◌, Option, Some, None}
 use Rattle.std.proofs.Common.{◌∙◌, sym, subst, refl, arith}
-use Rattle.kp_schema.specs.declared.dir.Dir.TheVariants as dir
-use Rattle.tree_spelling.specs.Body.{Contents, IsOf}
+use Rattle.tree_spelling.specs.Body.{Contents}
 use Rattle.filter_core.specs.declared.input.Input.{Input}
 use Rattle.filter_core.specs.declared.input.Input.TheVariants.{Response, NoResponse, Verdict}
-use Rattle.filter_core.specs.Acks.{has_acks_zero}
 use Rattle.filter_core.specs.Decision.{Decision, Forward, Side, HoldFor, Return, Shut}
 use Rattle.filter_core.specs.Inputs.{IsWholeRequest, IsResponseTo, MayComeFor, MayFollow}
-use Rattle.filter_core.specs.Laws.{IsForward, IsLast, IsSentOnAs, WillBeAnswered, AnswersRequest, ForwardsOnce, EndsAfterSix, ForwardsTheSame, QuestionsAreAnswered, ReturnsAnAnswer}
+use Rattle.filter_core.specs.Laws.{IsForward, IsLast, IsSentOnAs, AnswersRequest, ForwardsOnce, EndsAfterSix, ForwardsTheSame, QuestionsAreAnswered, ReturnsAnAnswer}
 use Rattle.filter_core.specs.TwoTurns.{two_turns, handed_back}
 
 -- it asks nothing aside and holds nothing

@@ -1,10 +1,10 @@
 -- The laws of a filter. They speak of whole requests, and of inputs that may have come.
-use Rattle.std.specs.Prelude.{◌≡◌, ◌≤◌, ℕ, true, false, List, ◌∷◌, ◌++◌, length, Option, Some, None, IsTrue}
+use Rattle.std.specs.Prelude.{◌≡◌, ◌≤◌, true, false, List, ◌∷◌, ◌++◌, length, Option, Some, None, IsTrue}
 use Rattle.kp_schema.specs.Messages.{is_supported}
 use Rattle.tree_spelling.specs.Body.{Contents}
 use Rattle.filter_core.specs.declared.input.Input.{Input}
 use Rattle.filter_core.specs.Acks.{has_acks_zero}
-use Rattle.filter_core.specs.Decision.{Decision, Turn, Forward, Side, HoldFor, Return, Shut}
+use Rattle.filter_core.specs.Decision.{Decision, Turn, Forward, Side, Return, Shut}
 use Rattle.filter_core.specs.Inputs.{IsWholeRequest, IsResponseTo, AreInputs}
 
 abbrev pub IsForward : Decision → Type 0

@@ -1,4 +1,6 @@
 pub mod Acks
+pub mod Fields
+pub mod ProduceFields
 pub mod Decision
 pub mod Inputs
 pub mod Laws

@@ -1,5 +1,5 @@
 -- Filters that have one turn on a request and one on what comes back for it.
-use Rattle.std.specs.Prelude.{List, [], ◌∷◌}
+use Rattle.std.specs.Prelude.{[], ◌∷◌}
 use Rattle.tree_spelling.specs.Body.{Contents}
 use Rattle.filter_core.specs.declared.input.Input.{Input}
 use Rattle.filter_core.specs.Decision.{Decision, Return, Turn}

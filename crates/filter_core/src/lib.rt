@@ -16,10 +16,12 @@
 
 mod filter;
 mod input;
+mod laws;
 mod moves;
 mod reason;
 
 pub use filter::Filter;
 pub use input::Input;
+pub use laws::acks_law;
 pub use moves::Move;
 pub use reason::Reason;
