@@ -178,16 +178,3 @@ heeding_returns request (x ∷ (y ∷ ys)) r is_request h e = after_two (is_mess
 abbrev pub HeedingIsWaiting : Option Contents → Contents → List Input → Type 0
 HeedingIsWaiting None request inputs = (x : Input) (xs : List Input) → probe_heeding request (inputs ++ x ∷ xs) ≡ handed_back x
 HeedingIsWaiting (Some later) request inputs = (later ≡ request) × ((x : Input) (xs : List Input) → probe_heeding request (inputs ++ x ∷ xs) ≡ by_verdict (first_byte x) request xs)
-
--- at its start
-pub passes_waiting : (request : Contents) → is_message (pos 12) (pos 0) request ≡ false → HeedingIsWaiting None request []
-passes_waiting request e = λ x xs. ap (λ b. held_or_passing b request (x ∷ xs)) e
-
-pub held_waiting : (request : Contents) → is_message (pos 12) (pos 0) request ≡ true → HeedingIsWaiting (Some request) request []
-held_waiting request e = (refl, λ x xs. ap (λ b. held_or_passing b request (x ∷ xs)) e)
-
--- where the verdict said nothing
-pub forwarded_waiting : (later request : Contents) (inputs : List Input) (y : Input) → first_byte y ≡ None
-    → HeedingIsWaiting (Some later) request inputs → HeedingIsWaiting None request (inputs ++ y ∷ [])
-forwarded_waiting later request inputs y e h =
-    λ x xs. ap (probe_heeding request) (append_assoc inputs (y ∷ []) (x ∷ xs)) ∙ (h.1 y (x ∷ xs) ∙ ap (λ said. by_verdict said request (x ∷ xs)) e)

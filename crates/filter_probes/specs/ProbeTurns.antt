@@ -64,17 +64,3 @@ pub probe_returns : (habit : Habit) → ReturnsAnAnswer (probe_turn habit)
 probe_returns (Asking what times) = asking_returns what (how_often times)
 probe_returns (TwoTurns what) = lawful.returns_an_answer (on_request_of what) (on_input_of what) (two_turns_keep what)
 probe_returns Heeding = heeding_returns
-
-module _ (w n : ℕ) where
-  -- at its start
-  pub starts_waiting : (request : Contents) (later : Option Contents) (l : ℕ) → AskingNow (how_often n) request later l → ProbeIsWaiting (Asking w n) later l request []
-  starts_waiting request None l h = λ x xs. ap (λ k. probe_asking w k request (x ∷ xs)) h
-  starts_waiting request (Some later) l h = (h.0, λ x xs. ap (λ k. probe_asking w k request (x ∷ xs)) h.1)
-
-  -- and when it was given something
-  pub still_waiting : (left : ℕ) (request : Contents) (inputs : List Input) (y : Input) (later : Option Contents) (l : ℕ)
-      → ((x : Input) (xs : List Input) → probe_asking w (how_often n) request (inputs ++ x ∷ xs) ≡ probe_asking w left request xs)
-      → AskingNow left request later l → ProbeIsWaiting (Asking w n) later l request (inputs ++ y ∷ [])
-  still_waiting left request inputs y None l goes h = λ x xs. ap (probe_asking w (how_often n) request) (append_assoc inputs (y ∷ []) (x ∷ xs)) ∙ goes y (x ∷ xs) ∙ ap (λ k. probe_asking w k request (x ∷ xs)) h
-  still_waiting left request inputs y (Some later) l goes h =
-      (h.0, λ x xs. ap (probe_asking w (how_often n) request) (append_assoc inputs (y ∷ []) (x ∷ xs)) ∙ goes y (x ∷ xs) ∙ ap (λ k. probe_asking w k request (x ∷ xs)) h.1)
