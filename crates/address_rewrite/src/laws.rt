@@ -27,7 +27,7 @@ pub fn addresses_law()
         → AreTargetsElsewhere plan → All (IsAtNoTarget plan) (nodes_of back) }
 {}
 
-/// Law: which fields of a response are addresses, by version. It has an empty body.
+/// Law: which fields of a response are addresses, by version, and that no other field is changed. It has an empty body.
 pub fn nodes_law()
     ensures metadata { All AreOfBrokers metadata_versions }
     ensures find_coordinator { All IsOfCoordinator coordinator_versions }
