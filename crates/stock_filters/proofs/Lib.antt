@@ -3,3 +3,7 @@ pub mod Denied
 pub mod Groups
 pub mod KeptTopics
 pub mod Screening
+pub mod FieldsOfCreateTopics
+pub mod FieldsOfProduce
+pub mod FieldsOfMetadata
+pub mod FieldsOfGroups

@@ -13,7 +13,8 @@ use Rattle.tree_spelling.specs.Body.{Contents, HasValue, body_shape}
 use Rattle.tree_spelling.specs.Paths.{place_at}
 use Rattle.tree_spelling.specs.Changes.{set_items}
 use Rattle.filter_core.specs.Acks.{acks_in}
-use Rattle.stock_filters.specs.Produce.{is_request, is_produce, produce_request, IsRequestShape, request_shape}
+use Rattle.filter_core.specs.ProduceFields.{produce_request}
+use Rattle.stock_filters.specs.Produce.{is_request, is_produce, IsRequestShape, request_shape}
 use Rattle.stock_filters.specs.ProduceAll.{is_one, has_acks_one, with_all_acks, HasAcksOne, acks_one_there, both_true, ItemsOf}
 
 pub is_a_request : (dir : Dir) → is_request dir ≡ true → dir ≡ Request

@@ -9,7 +9,7 @@ use Rattle.filter_core.specs.Decision.{Decision, Return, Makes}
 use Rattle.filter_core.specs.Responses.{response_given}
 use Rattle.filter_core.specs.TwoTurns.{handed_back}
 use Rattle.stock_filters.specs.declared.create_topics.Screened.{Screened}
-use Rattle.stock_filters.specs.CreateTopics.{topic_names, with_refused, refused_names, go_on, screening, back_with, KeepsRefused, IsScreening}
+use Rattle.stock_filters.specs.CreateTopics.{topic_names, with_refused, refused_names, go_on, screening, KeepsRefused, IsScreening}
 
 -- the same move by another name of the decision
 makes_as : {P : Type 0} (keeps others : P → Type 0) (D E : Decision) (made : Move P) → D ≡ E → ((pending : P) → keeps pending → others pending) → Makes keeps D made → Makes others E made
@@ -45,12 +45,3 @@ module _ (acts : Contents → Bool) (question : Contents → Decision) (flags : 
   held_resumes held request inputs answer refuses names made h m =
       let n = subst (λ (r : Contents). Makes (λ (p : Screened). KeepsRefused r (flags r answer) p.request p.refuses p.refused.items) (go_on error r (flags r answer)) made) h.2 m in
       subst (λ (xs : List Input). Makes (λ (p : Screened). IsScreening acts question flags error p.request p.refuses p.refused.items request (xs ++ answer ∷ [])) (screening acts question flags error request (xs ++ answer ∷ [])) made) (sym h.0) (going_on request answer made h.1 n)
-
-  -- where it had forwarded it
-  pub forwarded_resumes : (request : Contents) (inputs : List Input) (input : Input) (refuses : Bool) (names : List (Option (List ℕ))) (made : Move Screened)
-      → IsScreening acts question flags error None refuses names request inputs
-      → Makes (λ (p : Screened). ⊥) (back_with error refuses names input) made
-      → Makes (λ (p : Screened). IsScreening acts question flags error p.request p.refuses p.refused.items request (inputs ++ input ∷ [])) (screening acts question flags error request (inputs ++ input ∷ [])) made
-  forwarded_resumes request inputs input refuses names made h m =
-      makes_as (λ (p : Screened). ⊥) (λ (p : Screened). IsScreening acts question flags error p.request p.refuses p.refused.items request (inputs ++ input ∷ []))
-      (back_with error refuses names input) (screening acts question flags error request (inputs ++ input ∷ [])) made (sym (h input)) (λ p no. absurd no) m

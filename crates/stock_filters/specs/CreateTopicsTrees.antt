@@ -232,10 +232,6 @@ refusal_tree error version names known fits are few =
 
 -- ---- some are refused
 
-abbrev given_list : {A : Type 0} → Option (List A) → List A
-given_list None = []
-given_list (Some xs) = xs
-
 more_items : {A : Type 0} (f : A → List Primitive) (xs ys : List A) → flat_map f (xs ++ ys) ≡ flat_map f xs ++ flat_map f ys
 more_items f [] ys = refl
 more_items f (x ∷ xs) ys = ap (λ zs. f x ++ zs) (more_items f xs ys) ∙ sym (append_assoc (f x) (flat_map f xs) (flat_map f ys))

@@ -65,7 +65,7 @@ live_count_is described (group ∷ groups) =
 abbrev pub array_of : Option (List (Value group_shape)) → List Primitive
 array_of groups = array_items (items_of group_shape) groups ++ []
 
-live_array : (described : List Primitive) (groups : Option (List (Value group_shape))) → live_answer described (array_of groups) ≡ array_of (option_map (live_groups described) groups)
+pub live_array : (described : List Primitive) (groups : Option (List (Value group_shape))) → live_answer described (array_of groups) ≡ array_of (option_map (live_groups described) groups)
 live_array described None = refl
 live_array described (Some groups) =
     ap (λ xs. Count (Some (live_count described xs)) ∷ live_items described xs) (append-nil (flat groups))

@@ -11,3 +11,7 @@ pub mod Narrow
 pub mod Produce
 pub mod ProduceAll
 pub mod TopicDeny
+pub mod FieldsOfCreateTopics
+pub mod FieldsOfProduce
+pub mod FieldsOfMetadata
+pub mod FieldsOfGroups

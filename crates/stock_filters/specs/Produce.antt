@@ -10,6 +10,7 @@ use Rattle.kp_schema.specs.Messages.{fields_of, messages}
 use Rattle.kp_schema.specs.Produce.{request, response}
 use Rattle.tree_spelling.specs.Shape.{Shape, End, Plain, Array, message_shape}
 use Rattle.tree_spelling.specs.Body.{Contents}
+use Rattle.filter_core.specs.ProduceFields.{produce_request}
 
 abbrev pub is_request : Dir → Bool
 is_request Request = true
@@ -18,20 +19,6 @@ is_request Response = false
 -- whether a message is a Produce request
 abbrev pub is_produce : Contents → Bool
 is_produce message = int_eq message.key (pos 0) && is_request message.dir
-
--- ---- the request
-
--- index, records
-abbrev pub asked_partition : Shape
-asked_partition = Plain kinds.I32 (Plain kinds.Bytes End)
-
--- name, partitions
-abbrev pub asked_topic : Shape
-asked_topic = Plain kinds.Str (Array asked_partition End)
-
--- transactional_id, acks, timeout_ms, topics
-abbrev pub produce_request : Shape
-produce_request = Plain kinds.Str (Plain kinds.I16 (Plain kinds.I32 (Array asked_topic End)))
 
 -- ---- the response
 

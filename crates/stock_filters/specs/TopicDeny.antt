@@ -7,7 +7,6 @@ use Rattle.std.specs.Ordering.{int_eq}
 use Rattle.std.specs.Str.{bytes_eq}
 use Rattle.std.proofs.Common.{zero, suc, sym, ap, ◌∙◌, subst, refl, rules, inl, inr, append-nil, append_assoc, arith}
 use Rattle.std.proofs.lemmas.Bool.Decides.{Decides-int_eq}
-use Rattle.kp_schema.specs.declared.dir.Dir.{Dir}
 use Rattle.kp_schema.specs.declared.dir.Dir.TheVariants as dir
 use Rattle.tree_spelling.specs.declared.primitive.Primitive.{Primitive}
 use Rattle.tree_spelling.specs.declared.primitive.Primitive.TheVariants.{Int16, Int32, Int64, Text, Binary, Count}
@@ -22,7 +21,8 @@ use Rattle.filter_core.specs.Inputs.{IsWholeRequest, IsResponseTo}
 use Rattle.filter_core.specs.Laws.{IsSentOnAs, AnswersRequest}
 use Rattle.filter_core.specs.TwoTurns.{two_turns, handed_back}
 use Rattle.filter_core.specs.Lawful.{IsNoQuestion, KeepsLaws, handing_back, sent_on_itself}
-use Rattle.stock_filters.specs.Produce.{is_request, is_produce, asked_partition, asked_topic, produce_request, has_log_start, has_errors, log_start_shape, errors_shape, answered_partition, answered_topic, produce_response, IsRequestShape, request_shape, response_shape}
+use Rattle.filter_core.specs.ProduceFields.{asked_partition, asked_topic, produce_request}
+use Rattle.stock_filters.specs.Produce.{is_request, is_produce, has_log_start, has_errors, log_start_shape, errors_shape, answered_partition, answered_topic, produce_response, IsRequestShape, request_shape, response_shape}
 use Rattle.stock_filters.specs.ProduceAll.{both_true, ItemsOf}
 
 -- ---- which request is denied
@@ -135,7 +135,7 @@ topic_denied : (s e : Bool) (t : Value asked_topic) → flat_map (denied_item s 
 topic_denied s e t =
     ap (λ zs. Text t.0 ∷ zs) (last_array s e (array_items (items_of asked_partition) t.1.0) (array_items (items_of (answered_partition s e)) (option_map (map (denied_one s e)) t.1.0)) (array_denied s e (items_of asked_partition) (items_of (answered_partition s e)) (denied_one s e) (one_denied s e) t.1.0))
 
-request_denied : (s e : Bool) (r : Value produce_request) → flat_map (denied_item s e) (drop 3 (items_of produce_request r)) ++ (Int32 (pos 0) ∷ []) ≡ items_of (produce_response s e) (denied_value s e r)
+pub request_denied : (s e : Bool) (r : Value produce_request) → flat_map (denied_item s e) (drop 3 (items_of produce_request r)) ++ (Int32 (pos 0) ∷ []) ≡ items_of (produce_response s e) (denied_value s e r)
 request_denied s e r =
     let topics = array_denied s e (items_of asked_topic) (items_of (answered_topic s e)) (denied_topic s e) (topic_denied s e) r.1.1.1.0 in
     ap (λ zs. zs ++ (Int32 (pos 0) ∷ [])) (ap (flat_map (denied_item s e)) (append-nil (array_items (items_of asked_topic) r.1.1.1.0)) ∙ topics)
@@ -174,10 +174,6 @@ drop_fits (suc n) [] h = tt
 drop_fits (suc n) (x ∷ xs) h = drop_fits n xs h.1
 
 -- ---- why it keeps the laws
-
-is_a_request_dir : (d : Dir) → is_request d ≡ true → d ≡ dir.Request
-is_a_request_dir dir.Request is = refl
-is_a_request_dir dir.Response is = absurd cc
 
 -- a request that is denied has the fields of a version that is read
 denied_tree : (topics : List (List ℕ)) (request : Contents) (shape : Shape) → IsRequestShape request.version shape → ItemsOf shape request.items → AreInRange request.items

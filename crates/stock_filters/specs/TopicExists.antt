@@ -3,7 +3,7 @@ use Rattle.std.specs.Prelude.{◌≡◌, ℕ, ◌≤◌, pos, Bool, true, false,
 use Rattle.std.specs.List.{flat_map, list_any}
 use Rattle.std.specs.Ordering.{int_eq}
 use Rattle.std.specs.Str.{bytes_eq}
-use Rattle.std.proofs.Common.{sym, ap, ◌∙◌, subst, refl, append-nil, arith, rules}
+use Rattle.std.proofs.Common.{ap, ◌∙◌, refl, arith, rules}
 use Rattle.kp_schema.specs.declared.dir.Dir.TheVariants as dir
 use Rattle.kp_schema.specs.declared.kind.Kind.TheVariants as kinds
 use Rattle.kp_schema.specs.Messages.{fields_of, messages, is_supported, supported_versions}
@@ -18,7 +18,6 @@ use Rattle.tree_spelling.proofs.Blanks.{in_range-append}
 use Rattle.filter_core.specs.declared.input.Input.{Input}
 use Rattle.filter_core.specs.declared.input.Input.TheVariants.{Response}
 use Rattle.filter_core.specs.Decision.{Decision, Side, Turn}
-use Rattle.filter_core.specs.Inputs.{IsWholeRequest}
 use Rattle.filter_core.specs.Laws.{IsLawful, WillBeAnswered}
 use Rattle.stock_filters.specs.ProduceAll.{both_true}
 use Rattle.stock_filters.specs.CreateTopics.{topic_names, max_count, creates_topics, screening}
