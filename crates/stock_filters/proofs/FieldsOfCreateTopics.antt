@@ -1,17 +1,24 @@
--- The names that are found in a CreateTopics request are those of its topics.
-use Rattle.std.proofs.Common.{◌≡◌, refl, ap, ◌∙◌, ℕ, ℤ, pos, Bool, true, false, ◌&&◌, List, [], ◌∷◌, ◌++◌, map, Option, Some, None, append_assoc}
-use Rattle.std.specs.Prelude.{IsTrue}
+-- The names that are found in a CreateTopics request are those of its topics, and an answer has those that are refused.
+use Rattle.std.proofs.Common.{◌≡◌, refl, sym, ap, subst, ◌∙◌, ℕ, ◌+◌, ℤ, pos, Bool, true, false, ◌&&◌, List, [], ◌∷◌, ◌++◌, length, map, Option, Some, None, option_map, Result, Ok, Err, append_assoc}
+use Rattle.std.specs.Prelude.{IsTrue, nat_le, if◌then◌else◌}
 use Rattle.std.specs.List.{flat_map}
+use Rattle.kp_schema.specs.declared.dir.Dir.TheVariants.{Response}
 use Rattle.kp_schema.specs.declared.kind.Kind.TheVariants as kinds
 use Rattle.kp_schema.specs.Field.{is_between}
 use Rattle.kp_schema.specs.Messages.{fields_of, messages, is_supported, supported_versions}
 use Rattle.kp_schema.specs.CreateTopics as CreateTopics
 use Rattle.tree_spelling.specs.declared.primitive.Primitive.{Primitive}
-use Rattle.tree_spelling.specs.Shape.{Shape, End, Plain, Array}
+use Rattle.tree_spelling.specs.declared.primitive.Primitive.TheVariants.{Int32, Count}
+use Rattle.tree_spelling.specs.declared.edit_fault.EditFault.{EditFault}
+use Rattle.tree_spelling.specs.Shape.{Shape, End, Plain, Array, message_shape}
 use Rattle.tree_spelling.specs.Value.{Value, items_of}
+use Rattle.tree_spelling.specs.Retaining.{flagged, value_flagged}
+use Rattle.tree_spelling.specs.Body.{Contents, body_shape}
+use Rattle.tree_spelling.proofs.OneValue.{same_value}
 use Rattle.stock_filters.specs.ProduceAll.{both_true}
-use Rattle.stock_filters.specs.CreateTopics.{names_behind}
-use Rattle.stock_filters.specs.FieldsOfCreateTopics.{behind_factor, new_topic, behind_topics, create_request, names_of, FindsTopicNames}
+use Rattle.stock_filters.specs.CreateTopics.{names_behind, max_count, value_in, with_value, with_flagged, has_message, has_wait, refused_topic, wait_items, extended}
+use Rattle.stock_filters.specs.CreateTopicsTrees.{created_topic, created_response, response_shape, refused_value, array_of, refused_array, put_behind, value_found}
+use Rattle.stock_filters.specs.FieldsOfCreateTopics.{behind_factor, new_topic, behind_topics, create_request, names_of, FindsTopicNames, create_request_of, KeepsFlagged, refusal_value, extended_topics, extended_value, AnswersRefused}
 
 -- ---- fields of which none is an INT16 are no names
 
@@ -80,3 +87,82 @@ by_version version false validate k v supported = absurd (let e : false ≡ true
 
 pub finds_topic_names : (version : ℤ) → IsTrue (is_supported (pos 19) version) → FindsTopicNames version
 finds_topic_names version = by_version version (is_between (pos 0) (pos 4) version) (is_between (pos 1) (pos 4) version) refl refl
+
+-- ---- what is left of a request
+
+abbrev left_of : (shape : Shape) → List Primitive → Result (Value shape) EditFault → List Primitive
+left_of shape items (Ok value) = items_of shape value
+left_of shape items (Err fault) = items
+
+abbrev left_in : List Bool → (shape : Shape) → List Primitive → Option (Value shape) → List Primitive
+left_in flags shape items None = items
+left_in flags shape items (Some value) = left_of shape items (value_flagged shape value (0 ∷ []) flags)
+
+left_is : (request : Contents) (left : Result (Value (body_shape request)) EditFault) → (with_value request left).items ≡ left_of (body_shape request) request.items left
+left_is request (Ok value) = refl
+left_is request (Err fault) = refl
+
+left_there : (request : Contents) (flags : List Bool) (found : Option (Value (body_shape request))) → (with_flagged request flags found).items ≡ left_in flags (body_shape request) request.items found
+left_there request flags None = refl
+left_there request flags (Some value) = left_is request (value_flagged (body_shape request) value (0 ∷ []) flags)
+
+flagged_there : (flags : List Bool) (validate : Bool) (request : Value (create_request validate))
+    → left_in flags (create_request validate) (items_of (create_request validate) request) (value_in (create_request validate) (items_of (create_request validate) request))
+    ≡ items_of (create_request validate) (option_map (flagged flags) request.0, request.1)
+flagged_there flags validate request =
+    let shape = create_request validate in
+    let items = items_of shape request in
+    let found = value_found shape items (request, refl) in
+    let same : request ≡ found.value = same_value shape request found.value found.items_are in
+    ap (left_in flags shape items) (found.is ∙ ap Some (sym same))
+
+pub keeps_flagged : (flags : List Bool) (version : ℤ) → IsTrue (is_supported (pos 19) version) → KeepsFlagged flags version
+keeps_flagged flags version supported =
+    let validate = is_between (pos 1) (pos 4) version in
+    let fields = (finds_topic_names version supported).fields_are in
+    record {
+      fields_are = fields;
+      reads = λ request.
+          let items = items_of (create_request validate) request in
+          let whole = create_request_of version items in
+          left_there whole flags (value_in (body_shape whole) items)
+          ∙ subst (λ (shape : Shape). left_in flags shape items (value_in shape items) ≡ items_of (create_request validate) (option_map (flagged flags) request.0, request.1)) (sym fields) (flagged_there flags validate request);
+    }
+
+-- ---- the answer about topics that are refused
+
+refusal_there : (wait message : Bool) (error : ℤ) (names : List (Option (List ℕ)))
+    → wait_items wait ++ (Count (Some (length names)) ∷ flat_map (refused_topic message error) names)
+    ≡ items_of (created_response wait message) (refusal_value wait message (map (refused_value message error) names))
+refusal_there true message error names = ap (λ xs. Int32 (pos 0) ∷ xs) (refused_array message error names)
+refusal_there false message error names = refused_array message error names
+
+extended_by : (b : Bool) (message : Bool) (error : ℤ) (names : List (Option (List ℕ))) (topics : List (Value (created_topic message))) (old : Option (List (Value (created_topic message))))
+    → (if b then Count (Some (length topics + length names)) ∷ ((flat_map (items_of (created_topic message)) topics ++ []) ++ flat_map (refused_topic message error) names) else array_of message old)
+    ≡ array_of message (if b then Some (topics ++ map (refused_value message error) names) else old)
+extended_by true message error names topics old = put_behind message error names topics
+extended_by false message error names topics old = refl
+
+extended_there : (message : Bool) (error : ℤ) (names : List (Option (List ℕ))) (topics : Option (List (Value (created_topic message))))
+    → extended (length names) (flat_map (refused_topic message error) names) (array_of message topics) ≡ array_of message (extended_topics message error names topics)
+extended_there message error names None = extended_by (nat_le (0 + length names) max_count) message error names [] None
+extended_there message error names (Some topics) = extended_by (nat_le (length topics + length names) max_count) message error names topics (Some topics)
+
+answer_there : (wait message : Bool) (error : ℤ) (names : List (Option (List ℕ))) (response : Value (created_response wait message))
+    → extended (length names) (flat_map (refused_topic message error) names) (items_of (created_response wait message) response)
+    ≡ items_of (created_response wait message) (extended_value wait message error names response)
+answer_there true message error names response = ap (λ xs. Int32 response.0 ∷ xs) (extended_there message error names response.1.0)
+answer_there false message error names response = extended_there message error names response.0
+
+answer_by : (version : ℤ) (known : Bool) → is_between (pos 0) (pos 4) version ≡ known → IsTrue (is_supported (pos 19) version)
+    → message_shape (pos 19) version Response ≡ created_response (has_wait version) (has_message version)
+unfolding messages is_supported supported_versions
+answer_by version true k supported = response_shape version k
+answer_by version false k supported = absurd (let e : false ≡ true = rw k at supported in cc)
+
+pub answers_refused : (error : ℤ) (names : List (Option (List ℕ))) (version : ℤ) → IsTrue (is_supported (pos 19) version) → AnswersRefused error names version
+answers_refused error names version supported =
+    record {
+      all_refused = refusal_there (has_wait version) (has_message version) error names;
+      some_refused = record { fields_are = answer_by version (is_between (pos 0) (pos 4) version) refl supported; reads = answer_there (has_wait version) (has_message version) error names };
+    }

@@ -171,7 +171,7 @@ abbrev message_value : (message : Bool) → Value (message_shape_of message)
 message_value true = (None, tt)
 message_value false = tt
 
-abbrev refused_value : (message : Bool) (error : ℤ) → Option (List ℕ) → Value (created_topic message)
+abbrev pub refused_value : (message : Bool) (error : ℤ) → Option (List ℕ) → Value (created_topic message)
 refused_value message error name = (name, (error, message_value message))
 
 message_is : (message : Bool) → message_items message ≡ items_of (message_shape_of message) (message_value message)
@@ -199,12 +199,12 @@ refused_fit message error [] h g = tt
 refused_fit message error (name ∷ names) h g =
     in_range-append (refused_topic message error name) (flat_map (refused_topic message error) names) (g.0, (h, message_fits message)) (refused_fit message error names h g.1)
 
-abbrev array_of : (message : Bool) → Option (List (Value (created_topic message))) → List Primitive
+abbrev pub array_of : (message : Bool) → Option (List (Value (created_topic message))) → List Primitive
 array_of message topics = array_items (items_of (created_topic message)) topics ++ []
 
 -- ---- all topics are refused
 
-refused_array : (message : Bool) (error : ℤ) (names : List (Option (List ℕ))) → Count (Some (length names)) ∷ flat_map (refused_topic message error) names ≡ array_of message (Some (map (refused_value message error) names))
+pub refused_array : (message : Bool) (error : ℤ) (names : List (Option (List ℕ))) → Count (Some (length names)) ∷ flat_map (refused_topic message error) names ≡ array_of message (Some (map (refused_value message error) names))
 refused_array message error names =
     ap (λ n. Count (Some n) ∷ flat_map (refused_topic message error) names) (count_is message error names)
     ∙ ap (λ xs. Count (Some (length (map (refused_value message error) names))) ∷ xs) (refused_are message error names ∙ sym (append-nil (flat_map (items_of (created_topic message)) (map (refused_value message error) names))))
@@ -241,7 +241,7 @@ more_count [] ys = omega arith
 more_count (x ∷ xs) ys = omega (arith, more_count xs ys)
 
 -- entries put behind those of an array
-put_behind : (message : Bool) (error : ℤ) (names : List (Option (List ℕ))) (es : List (Value (created_topic message)))
+pub put_behind : (message : Bool) (error : ℤ) (names : List (Option (List ℕ))) (es : List (Value (created_topic message)))
     → Count (Some (length es + length names)) ∷ ((flat_map (items_of (created_topic message)) es ++ []) ++ flat_map (refused_topic message error) names) ≡ array_of message (Some (es ++ map (refused_value message error) names))
 put_behind message error names es =
     let f = items_of (created_topic message) in

@@ -1,4 +1,4 @@
-use Rattle.stock_filters.proofs.FieldsOfCreateTopics.{finds_topic_names}
+use Rattle.stock_filters.proofs.FieldsOfCreateTopics.{finds_topic_names, keeps_flagged, answers_refused}
 use Rattle.stock_filters.proofs.FieldsOfProduce.{changes_acks, finds_listed, denies_each}
 use Rattle.stock_filters.proofs.FieldsOfMetadata.{finds_known}
 use Rattle.stock_filters.proofs.FieldsOfGroups.{finds_ids, leaves_groups_out, finds_dead}
@@ -6,6 +6,12 @@ use Rattle.stock_filters.proofs.laws.fields_law.Goals as goal
 
 pub returns-clause-new_topics : goal.returns-clause-new_topics
 returns-clause-new_topics c = finds_topic_names
+
+pub returns-clause-allowed : goal.returns-clause-allowed
+returns-clause-allowed c = keeps_flagged
+
+pub returns-clause-refused : goal.returns-clause-refused
+returns-clause-refused c = answers_refused
 
 pub returns-clause-acks : goal.returns-clause-acks
 returns-clause-acks c = changes_acks
