@@ -15,7 +15,7 @@ use Rattle.tree_spelling.specs.Shape.{message_shape}
 use Rattle.tree_spelling.specs.Value.{Value, array_items, items_of}
 use Rattle.stock_filters.specs.GroupLive.{listed_items, group_ids, dead_state, is_dead, live_answer}
 use Rattle.stock_filters.specs.GroupTrees.{group_shape, groups_shape, live_groups, flat, array_of, live_array}
-use Rattle.stock_filters.specs.FieldsOfMetadata.{is_text}
+use Rattle.stock_filters.specs.FieldsOfMetadata.{is_same_text}
 use Rattle.stock_filters.specs.FieldsOfGroups.{has_throttle, groups_in, with_groups, known_id, ids_of, FindsIds, LeavesGroupsOut, member_shape, described_group, is_dead_group, is_any_dead, FindsDead}
 
 -- ---- ListGroups
@@ -77,7 +77,7 @@ no_state true rest dead is = is
 no_state false rest dead is = is
 
 dead_first : (id : List ℕ) (error : ℤ) (group state protocol_type protocol_data : Option (List ℕ)) (more : List Primitive) (rest : Bool) → is_dead id more ≡ rest
-    → is_dead id (Int16 error ∷ (Text group ∷ (Text state ∷ (Text protocol_type ∷ (Text protocol_data ∷ more))))) ≡ ((is_text id group && is_text dead_state state) || rest)
+    → is_dead id (Int16 error ∷ (Text group ∷ (Text state ∷ (Text protocol_type ∷ (Text protocol_data ∷ more))))) ≡ ((is_same_text id group && is_same_text dead_state state) || rest)
 dead_first id error None state protocol_type protocol_data more rest is = is
 dead_first id error (Some group) None protocol_type protocol_data more rest is = no_state (bytes_eq group id) rest (is_dead id more) is
 dead_first id error (Some group) (Some state) protocol_type protocol_data more rest is =

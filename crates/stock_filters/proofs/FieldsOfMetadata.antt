@@ -8,7 +8,7 @@ use Rattle.tree_spelling.specs.declared.primitive.Primitive.{Primitive}
 use Rattle.tree_spelling.specs.declared.primitive.Primitive.TheVariants.{Int16, Text}
 use Rattle.tree_spelling.specs.Value.{Value, array_items, items_of}
 use Rattle.stock_filters.specs.TopicExists.{is_known}
-use Rattle.stock_filters.specs.FieldsOfMetadata.{broker_shape, node_shape, partition_shape, known_topic, behind_brokers, has_name, is_any_named, FindsKnown}
+use Rattle.stock_filters.specs.FieldsOfMetadata.{metadata_broker, metadata_node, metadata_partition, known_topic, behind_brokers, has_name, is_any_named, FindsKnown}
 
 -- ---- fields that name no topic
 
@@ -16,39 +16,39 @@ use Rattle.stock_filters.specs.FieldsOfMetadata.{broker_shape, node_shape, parti
 abbrev NamesNone : List Primitive → List Primitive → Type 0
 NamesNone items more = (name : List ℕ) → is_known name (items ++ more) ≡ is_known name more
 
-brokers_pass : (brokers : List (Value broker_shape)) (more : List Primitive) → NamesNone (flat_map (items_of broker_shape) brokers) more
+brokers_pass : (brokers : List (Value metadata_broker)) (more : List Primitive) → NamesNone (flat_map (items_of metadata_broker) brokers) more
 brokers_pass [] more name = refl
 brokers_pass (broker ∷ brokers) more name = brokers_pass brokers more name
 
-nodes_pass : (nodes : List (Value node_shape)) (more : List Primitive) → NamesNone (flat_map (items_of node_shape) nodes) more
+nodes_pass : (nodes : List (Value metadata_node)) (more : List Primitive) → NamesNone (flat_map (items_of metadata_node) nodes) more
 nodes_pass [] more name = refl
 nodes_pass (node ∷ nodes) more name = nodes_pass nodes more name
 
-node_array_passes : (nodes : Option (List (Value node_shape))) (more : List Primitive) → NamesNone (array_items (items_of node_shape) nodes) more
+node_array_passes : (nodes : Option (List (Value metadata_node))) (more : List Primitive) → NamesNone (array_items (items_of metadata_node) nodes) more
 node_array_passes None more name = refl
 node_array_passes (Some nodes) more name = nodes_pass nodes more name
 
-partition_passes : (partition : Value partition_shape) (more : List Primitive) → NamesNone (items_of partition_shape partition) more
+partition_passes : (partition : Value metadata_partition) (more : List Primitive) → NamesNone (items_of metadata_partition partition) more
 partition_passes partition more name =
-    let replicas = array_items (items_of node_shape) partition.1.1.1.0 in
-    let in_sync = array_items (items_of node_shape) partition.1.1.1.1.0 in
+    let replicas = array_items (items_of metadata_node) partition.1.1.1.0 in
+    let in_sync = array_items (items_of metadata_node) partition.1.1.1.1.0 in
     ap (is_known name) (append_assoc replicas (in_sync ++ []) more)
     ∙ node_array_passes partition.1.1.1.0 ((in_sync ++ []) ++ more) name
     ∙ ap (λ xs. is_known name (xs ++ more)) (append-nil in_sync)
     ∙ node_array_passes partition.1.1.1.1.0 more name
 
-partitions_pass : (partitions : List (Value partition_shape)) (more : List Primitive) → NamesNone (flat_map (items_of partition_shape) partitions) more
+partitions_pass : (partitions : List (Value metadata_partition)) (more : List Primitive) → NamesNone (flat_map (items_of metadata_partition) partitions) more
 partitions_pass [] more name = refl
 partitions_pass (partition ∷ partitions) more name =
-    let others = flat_map (items_of partition_shape) partitions in
-    ap (is_known name) (append_assoc (items_of partition_shape partition) others more)
+    let others = flat_map (items_of metadata_partition) partitions in
+    ap (is_known name) (append_assoc (items_of metadata_partition partition) others more)
     ∙ partition_passes partition (others ++ more) name
     ∙ partitions_pass partitions more name
 
-partition_array_passes : (partitions : Option (List (Value partition_shape))) (more : List Primitive) → NamesNone (array_items (items_of partition_shape) partitions ++ []) more
+partition_array_passes : (partitions : Option (List (Value metadata_partition))) (more : List Primitive) → NamesNone (array_items (items_of metadata_partition) partitions ++ []) more
 partition_array_passes None more name = refl
 partition_array_passes (Some partitions) more name =
-    ap (λ xs. is_known name (xs ++ more)) (append-nil (flat_map (items_of partition_shape) partitions)) ∙ partitions_pass partitions more name
+    ap (λ xs. is_known name (xs ++ more)) (append-nil (flat_map (items_of metadata_partition) partitions)) ∙ partitions_pass partitions more name
 
 -- ---- the topics
 
@@ -72,8 +72,8 @@ topic_array_there name None = refl
 topic_array_there name (Some topics) =
     ap (is_known name) (append-nil (flat_map (items_of known_topic) topics)) ∙ topics_there name topics
 
-brokers_there : (name : List ℕ) (brokers : Option (List (Value broker_shape))) (rest : Value behind_brokers)
-    → is_known name (array_items (items_of broker_shape) brokers ++ items_of behind_brokers rest) ≡ is_any_named name rest.1.1.0
+brokers_there : (name : List ℕ) (brokers : Option (List (Value metadata_broker))) (rest : Value behind_brokers)
+    → is_known name (array_items (items_of metadata_broker) brokers ++ items_of behind_brokers rest) ≡ is_any_named name rest.1.1.0
 brokers_there name None rest = topic_array_there name rest.1.1.0
 brokers_there name (Some brokers) rest = brokers_pass brokers (items_of behind_brokers rest) name ∙ topic_array_there name rest.1.1.0
 

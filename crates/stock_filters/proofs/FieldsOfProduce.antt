@@ -15,7 +15,7 @@ use Rattle.filter_core.specs.ProduceFields.{asked_partition, asked_topic, produc
 use Rattle.stock_filters.specs.Produce.{has_log_start, has_errors, produce_response, response_shape}
 use Rattle.stock_filters.specs.ProduceAll.{with_all_acks}
 use Rattle.stock_filters.specs.TopicDeny.{names_listed, request_denied}
-use Rattle.stock_filters.specs.FieldsOfProduce.{request_of, acked_by_all, ChangesAcks, is_listed, is_any_listed, FindsListed, DeniesEach}
+use Rattle.stock_filters.specs.FieldsOfProduce.{produce_request_of, acked_by_all, ChangesAcks, is_denied_name, is_any_denied, FindsListed, DeniesEach}
 
 -- ---- the fields of each version
 
@@ -30,7 +30,7 @@ fields_there version = fields_by version (is_between (pos 3) (pos 8) version) re
 -- ---- `produce-all`
 
 changed_by : (b : Bool) (version : ℤ) (request : Value produce_request) → int_eq request.1.0 (pos 1) ≡ b
-    → (with_all_acks (request_of version (items_of produce_request request))).items ≡ items_of produce_request (acked_by_all request)
+    → (with_all_acks (produce_request_of version (items_of produce_request request))).items ≡ items_of produce_request (acked_by_all request)
 changed_by true version request is = rw is refl
 changed_by false version request is = rw is refl
 
@@ -54,18 +54,18 @@ partitions_without (Some partitions) more listed =
     ap (λ xs. list_any (names_listed listed) (xs ++ more)) (append-nil (flat_map (items_of asked_partition) partitions)) ∙ each_without partitions more listed
 
 name_first : (listed : List (List ℕ)) (name : Option (List ℕ)) (rest : Bool) (items : List Primitive) → list_any (names_listed listed) items ≡ rest
-    → list_any (names_listed listed) (Text name ∷ items) ≡ (is_listed listed name || rest)
+    → list_any (names_listed listed) (Text name ∷ items) ≡ (is_denied_name listed name || rest)
 name_first listed None rest items is = is
-name_first listed (Some name) rest items is = ap (λ b. is_listed listed (Some name) || b) is
+name_first listed (Some name) rest items is = ap (λ b. is_denied_name listed (Some name) || b) is
 
-topics_there : (listed : List (List ℕ)) (topics : List (Value asked_topic)) → list_any (names_listed listed) (flat_map (items_of asked_topic) topics) ≡ list_any (λ topic. is_listed listed topic.0) topics
+topics_there : (listed : List (List ℕ)) (topics : List (Value asked_topic)) → list_any (names_listed listed) (flat_map (items_of asked_topic) topics) ≡ list_any (λ topic. is_denied_name listed topic.0) topics
 topics_there listed [] = refl
 topics_there listed (topic ∷ topics) =
     let others = flat_map (items_of asked_topic) topics in
-    name_first listed topic.0 (list_any (λ topic. is_listed listed topic.0) topics) ((array_items (items_of asked_partition) topic.1.0 ++ []) ++ others)
+    name_first listed topic.0 (list_any (λ topic. is_denied_name listed topic.0) topics) ((array_items (items_of asked_partition) topic.1.0 ++ []) ++ others)
     (partitions_without topic.1.0 others listed ∙ topics_there listed topics)
 
-array_there : (listed : List (List ℕ)) (topics : Option (List (Value asked_topic))) → list_any (names_listed listed) (array_items (items_of asked_topic) topics ++ []) ≡ is_any_listed listed topics
+array_there : (listed : List (List ℕ)) (topics : Option (List (Value asked_topic))) → list_any (names_listed listed) (array_items (items_of asked_topic) topics ++ []) ≡ is_any_denied listed topics
 array_there listed None = refl
 array_there listed (Some topics) =
     ap (λ xs. list_any (names_listed listed) xs) (append-nil (flat_map (items_of asked_topic) topics)) ∙ topics_there listed topics

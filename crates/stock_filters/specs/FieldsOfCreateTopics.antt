@@ -64,8 +64,8 @@ KeepsFlagged flags version =
 
 -- ---- the answer about topics that are refused
 
-abbrev pub answer_of : ℤ → List Primitive → Contents
-answer_of version items = record { key = pos 19; version = version; dir = Response; items = items }
+abbrev pub create_response_of : ℤ → List Primitive → Contents
+create_response_of version items = record { key = pos 19; version = version; dir = Response; items = items }
 
 -- throttle_time_ms 0, and these topics
 abbrev pub refusal_value : (wait message : Bool) → List (Value (created_topic message)) → Value (created_response wait message)
@@ -91,5 +91,5 @@ extended_value false message error names response = (extended_topics message err
 pub record AnswersRefused (error : ℤ) (names : List (Option (List ℕ))) (version : ℤ) : Type 0 where
   pub all_refused : (refusal error version names).items
       ≡ items_of (created_response (has_wait version) (has_message version)) (refusal_value (has_wait version) (has_message version) (map (refused_value (has_message version) error) names))
-  pub some_refused : ReadsFields (pos 19) version Response (created_response (has_wait version) (has_message version)) (λ items. (with_refused error names (answer_of version items)).items)
+  pub some_refused : ReadsFields (pos 19) version Response (created_response (has_wait version) (has_message version)) (λ items. (with_refused error names (create_response_of version items)).items)
       (λ response. items_of (created_response (has_wait version) (has_message version)) (extended_value (has_wait version) (has_message version) error names response))

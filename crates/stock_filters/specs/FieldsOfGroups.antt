@@ -12,7 +12,7 @@ use Rattle.tree_spelling.specs.Value.{Value, items_of}
 use Rattle.filter_core.specs.Fields.{ReadsFields}
 use Rattle.stock_filters.specs.GroupLive.{listed_items, group_ids, dead_state, is_dead, live_answer}
 use Rattle.stock_filters.specs.GroupTrees.{group_shape, groups_shape, live_groups}
-use Rattle.stock_filters.specs.FieldsOfMetadata.{is_text}
+use Rattle.stock_filters.specs.FieldsOfMetadata.{is_same_text}
 
 -- ---- ListGroups
 
@@ -65,7 +65,7 @@ description_response = Array described_group End
 
 -- it has this id, and is dead
 abbrev pub is_dead_group : List ℕ → Value described_group → Bool
-is_dead_group id group = is_text id group.1.0 && is_text dead_state group.1.1.0
+is_dead_group id group = is_same_text id group.1.0 && is_same_text dead_state group.1.1.0
 
 -- one of the groups has this id, and is dead; null has none
 abbrev pub is_any_dead : List ℕ → Option (List (Value described_group)) → Bool

@@ -12,20 +12,20 @@ use Rattle.filter_core.specs.Fields.{ReadsFields}
 use Rattle.stock_filters.specs.TopicExists.{is_known}
 
 -- node_id, host, port, rack
-abbrev pub broker_shape : Shape
-broker_shape = Plain kinds.I32 (Plain kinds.Str (Plain kinds.I32 (Plain kinds.Str End)))
+abbrev pub metadata_broker : Shape
+metadata_broker = Plain kinds.I32 (Plain kinds.Str (Plain kinds.I32 (Plain kinds.Str End)))
 
 -- a node's number
-abbrev pub node_shape : Shape
-node_shape = Plain kinds.I32 End
+abbrev pub metadata_node : Shape
+metadata_node = Plain kinds.I32 End
 
 -- error_code, index, leader_id, replica_nodes, isr_nodes
-abbrev pub partition_shape : Shape
-partition_shape = Plain kinds.I16 (Plain kinds.I32 (Plain kinds.I32 (Array node_shape (Array node_shape End))))
+abbrev pub metadata_partition : Shape
+metadata_partition = Plain kinds.I16 (Plain kinds.I32 (Plain kinds.I32 (Array metadata_node (Array metadata_node End))))
 
 -- error_code, name, is_internal, partitions
 abbrev pub known_topic : Shape
-known_topic = Plain kinds.I16 (Plain kinds.Str (Plain kinds.Bool (Array partition_shape End)))
+known_topic = Plain kinds.I16 (Plain kinds.Str (Plain kinds.Bool (Array metadata_partition End)))
 
 -- cluster_id, controller_id, topics
 abbrev pub behind_brokers : Shape
@@ -33,16 +33,16 @@ behind_brokers = Plain kinds.Str (Plain kinds.I32 (Array known_topic End))
 
 -- throttle_time_ms, brokers, and what stands behind them
 abbrev pub metadata_response : Shape
-metadata_response = Plain kinds.I32 (Array broker_shape behind_brokers)
+metadata_response = Plain kinds.I32 (Array metadata_broker behind_brokers)
 
 -- a text that isn't null is these bytes
-abbrev pub is_text : List ℕ → Option (List ℕ) → Bool
-is_text bytes None = false
-is_text bytes (Some text) = bytes_eq text bytes
+abbrev pub is_same_text : List ℕ → Option (List ℕ) → Bool
+is_same_text bytes None = false
+is_same_text bytes (Some text) = bytes_eq text bytes
 
 -- it has this name, and no error
 abbrev pub has_name : List ℕ → Value known_topic → Bool
-has_name name topic = int_eq topic.0 (pos 0) && is_text name topic.1.0
+has_name name topic = int_eq topic.0 (pos 0) && is_same_text name topic.1.0
 
 -- one of the topics has this name, and no error; null has none
 abbrev pub is_any_named : List ℕ → Option (List (Value known_topic)) → Bool
