@@ -68,10 +68,6 @@ given_length : (x : Outside) (found : Option Request) (rs : List Request) (k : �
 given_length x None rs k = refl
 given_length x (Some r) rs k = set_length rs k _
 
-joined_length : (xs : List Request) (x : Request) → length (xs ++ x ∷ []) ≡ suc (length xs)
-joined_length [] x = refl
-joined_length (y ∷ ys) x = ap suc (joined_length ys x)
-
 -- the same of a state
 abbrev AllBefore : State → Type 0
 AllBefore s = IsBehindAll (length s.requests) s.causes

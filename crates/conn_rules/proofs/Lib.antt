@@ -11,3 +11,5 @@ pub mod Brings
 pub mod Resting
 pub mod Told
 pub mod ClientEnds
+pub mod Moves
+pub mod Origins

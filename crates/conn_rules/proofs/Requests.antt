@@ -14,7 +14,7 @@ use Rattle.conn_rules.specs.Meaning.{Meaning}
 use Rattle.conn_rules.specs.State.{State, opening, halted, in_flight, held}
 use Rattle.conn_rules.specs.Causes.{are_ending, first_cause}
 use Rattle.conn_rules.specs.Steps.{joined, response_in, silent_passed, over_or, respond_or, told_again, emit_step, answer_to, memory_answer, StepOrNoMemory}
-use Rattle.conn_rules.specs.History.{Entry, LeadsTo, IsHistory, is_taken, frame_taken, frames_taken, AreRequests, found_no_room, client_frame, client_frames, AreFirst}
+use Rattle.conn_rules.specs.History.{Entry, LeadsTo, IsHistory, is_taken, frame_taken, frames_taken, AreRequests, client_frame, client_frames, AreFirst}
 use Rattle.conn_rules.proofs.Keeps.{Keeps, keeps_joined, keeps_halted, keeps_settling}
 use Rattle.conn_rules.proofs.Quiet.{IsQuiet, quiet_event}
 

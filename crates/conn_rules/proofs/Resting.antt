@@ -15,12 +15,12 @@ use Rattle.conn_rules.specs.declared.event.Emit.TheVariants as emit
 use Rattle.conn_rules.specs.declared.event.TakeFault.TheVariants as take_fault
 use Rattle.conn_rules.specs.declared.event.AnswerFault.TheVariants as answer_fault
 use Rattle.conn_rules.specs.declared.event.CompleteFault.TheVariants as complete_fault
-use Rattle.conn_rules.specs.Causes.{below, with_cut, with_death, with_halt, with_told, are_ending, are_dead, are_still, client_ended, broker_ended}
+use Rattle.conn_rules.specs.Causes.{below, with_cut, with_death, are_ending, are_dead, are_still, client_ended, broker_ended}
 use Rattle.conn_rules.specs.Meaning.{Meaning}
-use Rattle.conn_rules.specs.Settling.{Act, or_else, act_of, act_from, next_act, lets_later_go, Settles}
-use Rattle.conn_rules.specs.State.{Verdict, Request, ListedSend, State, opening, cut_at, halted, in_flight, held, give, due_send, waiting}
-use Rattle.conn_rules.specs.Steps.{joined, attributed, open_hold, is_hold, client_end, faulted, noted, sent_next, send_step, first_hold, picked_next, response_in, silent_passed, over_or, respond_or, told_again, emit_step, answer_to, Step, StepOrNoMemory}
-use Rattle.conn_rules.specs.History.{Entry, LeadsTo, IsHistory}
+use Rattle.conn_rules.specs.Settling.{Act, or_else, act_from, next_act, lets_later_go}
+use Rattle.conn_rules.specs.State.{Verdict, Request, ListedSend, State, opening, cut_at, in_flight, held, give, due_send, waiting}
+use Rattle.conn_rules.specs.Steps.{joined, attributed, open_hold, is_hold, client_end, faulted, noted, sent_next, first_hold, picked_next, response_in, silent_passed, over_or, respond_or, told_again, emit_step, answer_to, StepOrNoMemory}
+use Rattle.conn_rules.specs.History.{Entry, LeadsTo}
 use Rattle.conn_rules.specs.Work.{total_work, is_accepted, WorkStays}
 use Rattle.conn_rules.proofs.Sweep.{sweeps}
 

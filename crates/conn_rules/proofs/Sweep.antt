@@ -86,14 +86,14 @@ act_of_one sends k i free before behind main responds true act h =
     subst (IsActOf k) e refl
 act_of_one sends k i free before behind main responds false act h = cc
 
-act_is_of : (sends : List ListedSend) (k i : ℕ) (free : Bool) (status : Status) (act : Act) → act_of sends k i free status ≡ Some act → IsActOf k act
+pub act_is_of : (sends : List ListedSend) (k i : ℕ) (free : Bool) (status : Status) (act : Act) → act_of sends k i free status ≡ Some act → IsActOf k act
 act_is_of sends k i free (Fails why) act h = let e : CutAt k (why k) ≡ act = cc in subst (IsActOf k) e refl
 act_is_of sends k i free (Done response) act h = cc
 act_is_of sends k i free (Waits (Hold key)) act h = cc
 act_is_of sends k i free (Waits (ToBroker before behind main responds)) act h = act_of_one sends k i free before behind main responds (not (is_listed sends k i) && (free || not main)) act h
 
 -- the act of a request that is there
-if_low : (low : Bool) (a : Option Act) (act : Act) → (if low then a else None) ≡ Some act → (low ≡ true) × (a ≡ Some act)
+pub if_low : (low : Bool) (a : Option Act) (act : Act) → (if low then a else None) ≡ Some act → (low ≡ true) × (a ≡ Some act)
 if_low true a act h = (refl, h)
 if_low false a act h = cc
 

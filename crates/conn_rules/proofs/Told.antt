@@ -46,11 +46,11 @@ over_still : (c : Causes) (why : End) → c.over ≡ Some why → are_still c �
 over_still c why over = rw over (or_last_two (is_some c.halt))
 
 -- what comes next, and all that could settle, stays
-record IsUnmoved (s t : State) : Type 0 where
+pub record IsUnmoved (s t : State) : Type 0 where
   requests : t.requests ≡ s.requests
   sends : t.sends ≡ s.sends
   passed : t.passed ≡ s.passed
-  causes : t.causes ≡ s.causes
+  pub causes : t.causes ≡ s.causes
 
 unmoved_same : (s : State) → IsUnmoved s s
 unmoved_same s = record { requests = refl; sends = refl; passed = refl; causes = refl }
@@ -63,7 +63,7 @@ unmoved_send : (s : State) (b : Bool) (next : Option ListedSend) → IsUnmoved s
 unmoved_send s true next = unmoved_same s
 unmoved_send s false next = unmoved_sent s next
 
-unmoved_lower : (s t : State) → IsUnmoved s t → IsLower s t
+pub unmoved_lower : (s t : State) → IsUnmoved s t → IsLower s t
 unmoved_lower s t h = lower_same s t h.requests h.sends (ap (λ c. c.cut) h.causes)
 
 unmoved_noted : (s t : State) (told : Bool) → told ≡ true → IsUnmoved s (if told then s else t)
@@ -96,7 +96,7 @@ module _ (M : Meaning) (why : End) where
       }))
 
   -- after an end was told, nothing moves
-  unmoved_answer : (s : State) → s.causes.over ≡ Some why → (e : Event) → IsUnmoved s (answer_to M s e).1
+  pub unmoved_answer : (s : State) → s.causes.over ≡ Some why → (e : Event) → IsUnmoved s (answer_to M s e).1
   unmoved_answer s over (event.Take frame) = rw (over_ends s.causes why over) (unmoved_same s)
   unmoved_answer s over (event.Answer frame) = rw (over_dead s.causes why over) (unmoved_same s)
   unmoved_answer s over (event.Complete k i verdict) = rw (over_still s.causes why over) (unmoved_same s)
@@ -109,7 +109,7 @@ module _ (M : Meaning) (why : End) where
   unmoved_answer s over event.Look = unmoved_same s
 
   -- and memory is never wanting
-  no_memory_answer : (s : State) → s.causes.over ≡ Some why → (e : Event) → TakesMemory s e → memory_answer (answer_to M s e).0 ≡ None
+  pub no_memory_answer : (s : State) → s.causes.over ≡ Some why → (e : Event) → TakesMemory s e → memory_answer (answer_to M s e).0 ≡ None
   no_memory_answer s over (event.Take frame) takes = rw (over_ends s.causes why over)
   no_memory_answer s over (event.Answer frame) takes = rw (over_dead s.causes why over)
   no_memory_answer s over (event.Complete k i verdict) takes = rw (over_still s.causes why over)
@@ -169,13 +169,13 @@ module _ (M : Meaning) (s : State) (untold : s.causes.over ≡ None) where
       (λ none. next_death s.causes.death t refl runs not_cut none refl))))
 
 -- At every moment nothing is left to settle, and the end that was told comes next.
-record IsRightlyTold (M : Meaning) (s : State) : Type 0 where
+pub record IsRightlyTold (M : Meaning) (s : State) : Type 0 where
   rest : next_act M s ≡ None
   told : ToldNext M s
 
 module _ (M : Meaning) (s : State) (h : IsRightlyTold M s) where
   -- what rests stays as it is
-  settled_same : (t u : State) → IsLower s t → Settles M t u → t ≡ u
+  pub settled_same : (t u : State) → IsLower s t → Settles M t u → t ≡ u
   settled_same t u low settles = (sweeps M).once t t u ((sweeps M).rests t (rest_at M s t low h.rest)) settles
 
   settled_next : (t u : State) → IsLower s t → Settles M t u → ToldNext M t → ToldNext M u
@@ -223,7 +223,7 @@ module _ (M : Meaning) (s : State) (h : IsRightlyTold M s) where
   gives_up_untold None is e r u gives why told = absurd (let same : u.causes.over ≡ s.causes.over = ap (λ x. x.causes.over) gives.halts in cc)
   gives_up_untold (Some cause) is e r u gives why told = absurd (let none : memory_answer (answer_to M s e).0 ≡ None = no_memory_answer M cause s is e gives.takes in let some : memory_answer (answer_to M s e).0 ≡ Some r = gives.reply in cc)
 
-  rightly_event : (e : Event) (r : Reply) (u : State) → StepOrNoMemory M s e r u → IsRightlyTold M u
+  pub rightly_event : (e : Event) (r : Reply) (u : State) → StepOrNoMemory M s e r u → IsRightlyTold M u
   rightly_event e r u (inl step) = rightly_settled s.causes.over refl e u step.settles
   rightly_event e r u (inr gives) =
       record {
@@ -235,5 +235,8 @@ rightly_from : (M : Meaning) (s t : State) (hs : List Entry) → IsRightlyTold M
 rightly_from M s t [] h run = subst (λ x. IsRightlyTold M x) (sym run) h
 rightly_from M s t (entry ∷ hs) h run = rightly_from M run.0 t hs (rightly_event M s h entry.event entry.reply run.0 run.1) run.2
 
+pub rightly_opened : (M : Meaning) → IsRightlyTold M opening
+rightly_opened M = record { rest = refl; told = λ cause over. cc }
+
 pub end_next : (M : Meaning) (hs : List Entry) (s : State) (why : End) → IsHistory M hs s → s.causes.over ≡ Some why → IsEndNext M why s
-end_next M hs s why run = (rightly_from M opening s hs (record { rest = refl; told = λ cause over. cc }) run).told why
+end_next M hs s why run = (rightly_from M opening s hs (rightly_opened M) run).told why

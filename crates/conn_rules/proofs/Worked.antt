@@ -1,7 +1,5 @@
 -- The worked exchange goes so: each reply and each state is computed.
-use Rattle.std.proofs.Common.{◌≡◌, refl, inl}
-use Rattle.conn_rules.specs.State.{opening}
-use Rattle.conn_rules.specs.Settling.{Settles}
+use Rattle.std.proofs.Common.{refl, inl}
 use Rattle.conn_rules.specs.History.{IsHistory}
 use Rattle.conn_rules.specs.Worked.{worked_meaning, one_waits, both_came, one_sent, one_answered_here, one_passed, both_passed, client_gone, told_ended, worked_exchange}
 

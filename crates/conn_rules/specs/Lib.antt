@@ -10,3 +10,4 @@ pub mod Connections
 pub mod Worked
 pub mod Room
 pub mod Told
+pub mod Origins

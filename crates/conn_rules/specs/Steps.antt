@@ -14,7 +14,7 @@ use Rattle.conn_rules.specs.declared.event.Emit.TheVariants as emit
 use Rattle.conn_rules.specs.declared.event.TakeFault.TheVariants as take_fault
 use Rattle.conn_rules.specs.declared.event.AnswerFault.TheVariants as answer_fault
 use Rattle.conn_rules.specs.declared.event.CompleteFault.TheVariants as complete_fault
-use Rattle.conn_rules.specs.Meaning.{Meaning, ToBroker, Hold, Status, Waits, Done, Fails}
+use Rattle.conn_rules.specs.Meaning.{Meaning, Hold, Status, Waits, Done, Fails}
 use Rattle.conn_rules.specs.State.{Body, Verdict, Request, ListedSend, State, cut_at, dead, halted, in_flight, held, give, upstream_id, upstream_frame, due_send, waiting}
 use Rattle.conn_rules.specs.Causes.{below, cut_cause, with_told, are_ending, are_dead, are_still, broker_ended, after_client_end}
 use Rattle.conn_rules.specs.Settling.{Settles}

@@ -1,13 +1,13 @@
 -- An exchange worked through by hand, event by event, with the state after each. The frames are those of a Heartbeat of
 -- version 0 and of an ApiVersions request of version 3.
-use Rattle.std.specs.Prelude.{◌+◌, ◌==◌, ℕ, nat_lt, true, false, if◌then◌else◌, List, [], ◌∷◌, ◌++◌, length, take, drop, get_or, Option, None, Some, Ok}
+use Rattle.std.specs.Prelude.{◌+◌, ◌==◌, ℕ, nat_lt, true, false, if◌then◌else◌, List, [], ◌∷◌, ◌++◌, length, take, drop, get_or, None, Some, Ok}
 use Rattle.framing.specs.Frames.{sized}
 use Rattle.framing.specs.CorrelationIds.{request_id}
 use Rattle.kp_edge.specs.declared.end.End.TheVariants as end
 use Rattle.conn_rules.specs.declared.event.Event.TheVariants as event
 use Rattle.conn_rules.specs.declared.event.Reply.TheVariants as reply
 use Rattle.conn_rules.specs.declared.event.Emit.TheVariants as emit
-use Rattle.conn_rules.specs.State.{Outside, Body, NoResponse, Verdict, Request, ListedSend, State, opening}
+use Rattle.conn_rules.specs.State.{Outside, Body, NoResponse, Verdict, State, opening}
 use Rattle.conn_rules.specs.Meaning.{Meaning, ToBroker, Status, Waits, Done}
 use Rattle.conn_rules.specs.History.{Entry}
 

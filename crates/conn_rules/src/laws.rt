@@ -1,4 +1,4 @@
-ghost use Rattle.std.specs.Prelude.{◌≡◌, ◌∷◌, ◌++◌, List, length, Some, All, IsTrue};
+ghost use Rattle.std.specs.Prelude.{◌≡◌, ℕ, ◌∷◌, ◌++◌, List, length, Some, All, IsTrue};
 ghost use Rattle.kp_edge.specs.declared.end.End.{End};
 ghost use Rattle.conn_rules.specs.Meaning.{Meaning, Lasting};
 ghost use Rattle.conn_rules.specs.State.{State};
@@ -6,6 +6,7 @@ ghost use Rattle.conn_rules.specs.Worked.{worked_meaning, worked_exchange, told_
 ghost use Rattle.conn_rules.specs.Sweep.{SweepLaws};
 ghost use Rattle.conn_rules.specs.Work.{WorkStays};
 ghost use Rattle.conn_rules.specs.Told.{IsEndNext, is_client_stream_end, FailsByOwnEnds};
+ghost use Rattle.conn_rules.specs.Origins.{HaltOrigin, DeathOrigin, CutOrigin, ToldOrigin};
 ghost use Rattle.conn_rules.specs.History.{Entry, IsHistory, AreRequests, IsTold, IsToldIfEmit, IsInOrder, frames_taken, client_frames, AreFirst};
 
 /// The law of order: what a client was sent is the responses to the first of its requests, one after another,
@@ -39,6 +40,16 @@ pub fn end_stays_law()
 pub fn told_law()
     ensures end_next { (M : Meaning) (hs : List Entry) (s : State) (why : End) → IsHistory M hs s → s.causes.over ≡ Some why → IsEndNext M why s }
     ensures all_passed { (M : Meaning) (hs : List Entry) (s : State) (why : End) → FailsByOwnEnds M → IsHistory M hs s → s.causes.over ≡ Some why → IsTrue (is_client_stream_end why) → s.passed ≡ length s.requests }
+{}
+
+/// Each halt, cut and death has an origin: an entry of the history brought it, and which entry that is depends on the end.
+/// So an end of the client's stream is told of what came of that stream, and of nothing else, unless the meaning of requests
+/// gives it. The end that was told is that of a halt, of the cut at the first request that isn't passed, or of a death.
+pub fn causes_law()
+    ensures halt { (M : Meaning) (hs : List Entry) (s : State) (why : End) → IsHistory M hs s → s.causes.halt ≡ Some why → HaltOrigin M hs s why }
+    ensures cut { (M : Meaning) (hs : List Entry) (s : State) (k : ℕ) (why : End) → IsHistory M hs s → s.causes.cut ≡ Some (k, why) → CutOrigin M hs s k why }
+    ensures death { (M : Meaning) (hs : List Entry) (s : State) (why : End) → IsHistory M hs s → s.causes.death ≡ Some why → DeathOrigin M hs s why }
+    ensures told { (M : Meaning) (hs : List Entry) (s : State) (why : End) → IsHistory M hs s → s.causes.over ≡ Some why → ToldOrigin M hs s why }
 {}
 
 /// Settling is one sweep over the requests, from the oldest on.

@@ -17,6 +17,6 @@ pub use causes::Causes;
 pub use connection::Connection;
 pub use event::{AnswerFault, CompleteFault, Emit, Event, Fault, Look, Reply, TakeFault, Ticket};
 pub use laws::{
-    end_stays_law, first_frames_law, order_law, requests_law, sweep_laws, told_law, work_law,
-    worked_exchange,
+    causes_law, end_stays_law, first_frames_law, order_law, requests_law, sweep_laws, told_law,
+    work_law, worked_exchange,
 };
