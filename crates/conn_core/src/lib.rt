@@ -34,4 +34,5 @@ pub use conn_rules::{
     AnswerFault, CompleteFault, Connection, Emit, Fault, Look, TakeFault, Ticket,
 };
 pub use connection::Core;
+pub use kp_edge::End;
 pub use laws::{chain_law, own_ends_law, spelled_law};

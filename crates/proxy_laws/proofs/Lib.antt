@@ -11,3 +11,4 @@ pub mod Taken
 pub mod Bytes
 pub mod Sent
 pub mod WorkedAnswers
+pub mod ChainEnds

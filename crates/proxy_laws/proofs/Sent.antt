@@ -1,6 +1,6 @@
 -- What a client is sent in a history: the own responses of its first requests.
 use Rattle.std.proofs.Common.{◌≡◌, ◌∙◌, ap, refl, sym, subst, ℕ, zero, suc, ◌<◌, true, List, [], ◌∷◌, ◌++◌, length, map, take, drop, get_or, append_assoc, Some, slice_get, inl, inr, arith}
-use Rattle.std.specs.List.{All, AllByRecursion, AllZip, concat, flat_map}
+use Rattle.std.specs.List.{All, AllByRecursion}
 use Rattle.std.proofs.lemmas.List.{take-append-drop, map-append}
 use Rattle.std.proofs.lemmas.List.Elements.{All-tail, All-from_recursion}
 use Rattle.filter_core.specs.Decision.{Turn}
@@ -29,10 +29,6 @@ all_each : {X : Type 0} (P : X → Type 0) (xs : List X) → All P xs → AllByR
 all_each P [] all = tt
 all_each P (x ∷ xs) all = (all 0 x (omega arith), all_each P xs (All-tail P x xs all))
 
-joined_up : {X : Type 0} (f : X → List ℕ) (xs : List X) → flat_map f xs ≡ concat (map f xs)
-joined_up f [] = refl
-joined_up f (x ∷ xs) = ap (λ l. f x ++ l) (joined_up f xs)
-
 module _ (chain : List Turn) (limit : ℕ) (lawful : All IsLawful chain) where
   abbrev M : Meaning
   M = chained chain limit
@@ -40,37 +36,26 @@ module _ (chain : List Turn) (limit : ℕ) (lawful : All IsLawful chain) where
   own_one : (r : Request) → IsAnswered M r → IsGivenAsAwaited M r → IsOwnResponse r.frame (response_bytes (M.status r.frame r.given))
   own_one r answered fair = subst (λ status. IsOwnResponse r.frame (response_bytes status)) (sym answered.done) (done_with_own_response chain limit lawful r answered.response fair answered.done)
 
-  own_each : (rs : List Request) → AllByRecursion (IsAnswered M) rs → AllByRecursion (IsGivenAsAwaited M) rs → AllZip IsOwnResponse (map (λ r. r.frame) rs) (map (λ r. response_bytes (M.status r.frame r.given)) rs)
-  own_each [] answered fair = tt
-  own_each (r ∷ rs) answered fair = (own_one r answered.0 fair.0, own_each rs answered.1 fair.1)
-
   own_passed : (rs : List Request) → AllByRecursion (IsAnswered M) rs → AllByRecursion (IsGivenAsAwaited M) rs → AllByRecursion (HasOwnResponse M) rs
   own_passed [] answered given = tt
   own_passed (r ∷ rs) answered given = (own_one r answered.0 given.0, own_passed rs answered.1 given.1)
 
-  pub own_meanings : (hs : List Entry) (s : State) → IsHistory M hs s → FramesAreBytes hs → All (HasOwnResponse M) (take s.passed s.requests)
-  own_meanings hs s run bytes =
-      let in_order = order M hs s (chain_lasts chain limit) run in
-      let rs : List Request = take s.passed s.requests in
-      All-from_recursion (HasOwnResponse M) rs (own_passed rs (all_each (IsAnswered M) rs in_order.answered) (all_taken (IsGivenAsAwaited M) s.requests s.passed (all_fair M hs s run bytes)))
-
-  pub own_responses : (hs : List Entry) (s : State) → IsHistory M hs s → FramesAreBytes hs → AreOwnResponses hs
+  pub own_responses : (hs : List Entry) (s : State) → IsHistory M hs s → FramesAreBytes hs → AreOwnResponses M hs s
   own_responses hs s run bytes =
       let in_order = order M hs s (chain_lasts chain limit) run in
       let requests = rules.requests M hs s run in
       let rs : List Request = take s.passed s.requests in
       let frame : Request → List ℕ = λ r. r.frame in
       record {
-        frames = map frame rs;
+        sent_is = in_order.sent_is;
+        all_there = in_order.passed_there;
         first = (
           map frame (drop s.passed s.requests) ++ requests.other,
           requests.frames
               ∙ ap (λ l. l ++ requests.other) (ap (map frame) (sym (take-append-drop s.passed s.requests)) ∙ map-append frame rs (drop s.passed s.requests))
               ∙ append_assoc (map frame rs) (map frame (drop s.passed s.requests)) requests.other,
         );
-        responses = map (λ r. response_bytes (M.status r.frame r.given)) rs;
-        own = own_each rs (all_each (IsAnswered M) rs in_order.answered) (all_taken (IsGivenAsAwaited M) s.requests s.passed (all_fair M hs s run bytes));
-        sent_is = in_order.sent_is ∙ joined_up (λ (r : Request). response_bytes (M.status r.frame r.given)) rs;
+        own = All-from_recursion (HasOwnResponse M) rs (own_passed rs (all_each (IsAnswered M) rs in_order.answered) (all_taken (IsGivenAsAwaited M) s.requests s.passed (all_fair M hs s run bytes)));
       }
 
   -- of two fronts of one list, of which one is longer

@@ -9,7 +9,7 @@ use Rattle.filter_core.specs.declared.input.Input.TheVariants.{Response, NoRespo
 use Rattle.filter_core.specs.Decision.{Decision, Turn, Forward, Side, HoldFor, Return, Shut}
 use Rattle.filter_core.specs.Inputs.{IsWholeRequest, MayComeFor, IsVerdict, MayFollow, FollowFrom, AreInputs}
 use Rattle.filter_core.specs.Laws.{IsLast, IsSentOnAs, WillBeAnswered, AnswersRequest, IsLawful}
-use Rattle.filter_core.specs.Lawful.{answers_both, sent_on_itself}
+use Rattle.filter_core.specs.Lawful.{sent_on_itself}
 use Rattle.filter_core.specs.Responses.{input_with, response_given}
 use Rattle.side_requests.specs.declared.ask.Ask.{Ask}
 use Rattle.side_requests.specs.declared.ask.Ask.TheVariants as ask
@@ -36,12 +36,6 @@ answered_too a b h w =
       supported = subst (λ k. IsTrue (is_supported k b.version)) (sym h.same_key) (subst (λ v. IsTrue (is_supported a.key v)) (sym h.same_version) w.supported);
       response_comes = h.same_acks ∙ w.response_comes;
     }
-
--- what may come for what is sent on may come for the message itself
-comes_for_both : (a b : Contents) (x : Input) → IsSentOnAs a b → MayComeFor b x → MayComeFor a x
-comes_for_both a b (Response response) h may = answers_both a b response h may
-comes_for_both a b NoResponse h may = sym h.same_acks ∙ may
-comes_for_both a b (Verdict verdict) h may = may
 
 -- one input more
 pub given_one_more : (turn : Turn) (m : Contents) (before inputs : List Input) (x : Input) → FollowFrom turn m before inputs → MayFollow (turn m (before ++ inputs)) x → FollowFrom turn m before (inputs ++ x ∷ [])
@@ -92,9 +86,6 @@ MayPass m main = IsWholeRequest m × (main ≡ false → WillBeAnswered m)
 
 abbrev pub IsGoodWay : Way → ℕ → ℕ → Type 0
 IsGoodWay way end most = (m : Contents) (main : Bool) (xs : List Outside) → MayPass m main → Fit (way m main) xs → IsGood m main end most (way m main xs)
-
-no_forwarding : (main : Bool) → main ≡ true → main ≡ false → ⊥
-no_forwarding main a b = cc
 
 asked_through_forward : (a b : Contents) (main : Bool) (end : ℕ) (question : Ask) → IsSentOnAs a b → IsAskedFor b main end question → IsAskedFor a main end question
 asked_through_forward a b main end (ask.Broker message true) h q = (q.0, sent_on_both a b message h q.1)

@@ -3,3 +3,4 @@ pub mod LawfulChains
 pub mod Awaited
 pub mod OwnResponses
 pub mod WorkedChain
+pub mod ChainEnds

@@ -1,6 +1,5 @@
 -- What a client gets for its request, under a chain of lawful filters.
-use Rattle.std.specs.Prelude.{◌≡◌, ◌≢◌, ◌<◌, Bool, true, false, not, ℕ, suc, List, [], ◌∷◌, ◌++◌, take, MatchBool, IsTrue, All, Some, slice_get}
-use Rattle.std.specs.List.{AllZip, concat}
+use Rattle.std.specs.Prelude.{◌≡◌, ◌≢◌, ◌<◌, Bool, true, false, not, ℕ, suc, List, [], ◌∷◌, ◌++◌, ◌≤◌, length, map, take, MatchBool, IsTrue, All, Some, slice_get}
 use Rattle.kp_schema.specs.Messages.{is_supported}
 use Rattle.tree_spelling.specs.Body.{Contents}
 use Rattle.tree_spelling.specs.Spelling.{spelling}
@@ -14,7 +13,7 @@ use Rattle.side_requests.specs.declared.ask.Ask.TheVariants as ask
 use Rattle.filter_chain.specs.Outcomes.{NeverEnds}
 use Rattle.conn_rules.specs.Meaning.{Meaning, Done}
 use Rattle.conn_rules.specs.State.{Outside, Request, ListedSend, State, upstream_frame}
-use Rattle.conn_rules.specs.History.{Entry, response_bytes, out, sent, frames_taken, AreFirst}
+use Rattle.conn_rules.specs.History.{Entry, response_bytes, responses, out, sent, frames_taken, AreFirst}
 use Rattle.framing.specs.Heads.{client_id_spelled}
 use Rattle.conn_core.specs.Requests.{request_of, is_silent, is_told_versions, versions_told}
 use Rattle.conn_core.specs.Chained.{chained, chain_outcome}
@@ -77,14 +76,14 @@ pub record AreMessageSends (chain : List Turn) (hs : List Entry) (s : State) : T
   pub in_order : AreMainSendsInOrder s
   pub own : All (λ d. (r : Request) × (slice_get s.requests d.request ≡ Some r) × IsMessageSend chain r.frame d) s.sends
 
--- What the client was sent: for the first of the frames that were taken from it, one after another, its own response.
-pub record AreOwnResponses (hs : List Entry) : Type 0 where
-  pub frames : List (List ℕ)
-  pub first : AreFirst frames (frames_taken hs)
-  pub responses : List (List ℕ)
-  pub own : AllZip IsOwnResponse frames responses
-  pub sent_is : out hs ≡ concat responses
-
 -- what the request means, with all that it was given, is its own response
 abbrev pub HasOwnResponse : Meaning → Request → Type 0
 HasOwnResponse M r = IsOwnResponse r.frame (response_bytes (M.status r.frame r.given))
+
+-- What the client was sent: the responses of the passed requests, one after another. The frames of these requests are the first
+-- that were taken from the client. Each response is its request's own.
+pub record AreOwnResponses (M : Meaning) (hs : List Entry) (s : State) : Type 0 where
+  pub sent_is : out hs ≡ responses M s
+  pub all_there : s.passed ≤ length s.requests
+  pub first : AreFirst (map (λ r. r.frame) (take s.passed s.requests)) (frames_taken hs)
+  pub own : All (HasOwnResponse M) (take s.passed s.requests)

@@ -13,11 +13,14 @@
 #![tactic(auto)]
 
 mod chains;
+mod ends;
 mod responses;
 #[cfg(test)]
 mod tests;
 mod worked;
 
 pub use chains::{filters_are_lawful, lawful_chain_laws};
+pub use conn_rules::order_law;
+pub use ends::chain_ends_law;
 pub use responses::{awaited_law, connection_laws, filters_history_laws, frames_law, history_laws};
 pub use worked::worked_chain;

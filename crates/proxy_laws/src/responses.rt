@@ -1,4 +1,4 @@
-ghost use Rattle.std.specs.Prelude.{◌++◌, List, ℕ, All, flat_map, map, take};
+ghost use Rattle.std.specs.Prelude.{◌++◌, List, ℕ, All, flat_map, map};
 ghost use Rattle.tree_spelling.specs.Laws.{AreBytes};
 ghost use Rattle.framing.specs.Frames.{sized};
 ghost use Rattle.filter_core.specs.Decision.{Turn};
@@ -8,7 +8,7 @@ ghost use Rattle.conn_rules.specs.State.{State};
 ghost use Rattle.conn_rules.specs.History.{Entry, IsHistory};
 ghost use Rattle.conn_core.specs.Chained.{chained};
 ghost use Rattle.proxy_laws.specs.Awaited.{IsGivenAsAwaited, IsOwnSend, AreAskedOnce, FramesAreBytes};
-ghost use Rattle.proxy_laws.specs.OwnResponses.{DoneWithOwnResponse, SendsWholeMessages, AllComeToAnEnd, AreOwnResponses, HasOwnResponse, AreMessageSends};
+ghost use Rattle.proxy_laws.specs.OwnResponses.{DoneWithOwnResponse, SendsWholeMessages, AllComeToAnEnd, AreOwnResponses, AreMessageSends};
 
 use crate::chains::filters_are_lawful;
 use filter_core::Filter;
@@ -23,7 +23,7 @@ pub fn awaited_law()
 
 /// What a request gets, and what it sends, in a connection under a chain of lawful filters.
 pub fn connection_laws()
-    // A response is of the request's own API and version.
+    // A response is of the request's own API and version, or is the refusal of ApiVersions, or no bytes for a Produce with acks 0.
     ensures own_response { (chain : List Turn) (limit : ℕ) → All IsLawful chain → DoneWithOwnResponse chain limit }
     // What goes to the broker is whole, of a supported API and version, and the request itself or asked aside.
     ensures whole_messages { (chain : List Turn) (limit : ℕ) → All IsLawful chain → SendsWholeMessages chain limit }
@@ -33,11 +33,9 @@ pub fn connection_laws()
 
 /// What a client and a broker are sent, in every history of a connection under a chain of lawful filters.
 pub fn history_laws()
-    // For the first of its frames, one after another, the client is sent its own response.
-    ensures own_responses { (chain : List Turn) (limit : ℕ) (hs : List Entry) (s : State) → All IsLawful chain → IsHistory (chained chain limit) hs s → FramesAreBytes hs → AreOwnResponses hs }
-    // These are what the requests mean under the chain, with all that they were given.
-    ensures own_meanings { (chain : List Turn) (limit : ℕ) (hs : List Entry) (s : State) → All IsLawful chain → IsHistory (chained chain limit) hs s → FramesAreBytes hs
-        → All (HasOwnResponse (chained chain limit)) (take s.passed s.requests) }
+    // The client is sent the responses of the passed requests, one after another. These are the first of its requests. Each response
+    // is what its request means under the chain, with all that it was given, and is the request's own.
+    ensures own_responses { (chain : List Turn) (limit : ℕ) (hs : List Entry) (s : State) → All IsLawful chain → IsHistory (chained chain limit) hs s → FramesAreBytes hs → AreOwnResponses (chained chain limit) hs s }
     // The broker is sent the sends in order. Each is a whole message of a supported API and version. The requests themselves are
     // sent in the client's order, and each once at most.
     ensures message_sends { (chain : List Turn) (limit : ℕ) (hs : List Entry) (s : State) → All IsLawful chain → IsHistory (chained chain limit) hs s → FramesAreBytes hs → AreMessageSends chain hs s }
@@ -45,7 +43,7 @@ pub fn history_laws()
 
 /// The same for filters as code, in order from the client to the broker.
 pub fn filters_history_laws<F: Filter>(filters: &[F])
-    ensures own_responses { (limit : ℕ) (hs : List Entry) (s : State) → IsHistory (chained (map F.turn filters.now) limit) hs s → FramesAreBytes hs → AreOwnResponses hs }
+    ensures own_responses { (limit : ℕ) (hs : List Entry) (s : State) → IsHistory (chained (map F.turn filters.now) limit) hs s → FramesAreBytes hs → AreOwnResponses (chained (map F.turn filters.now) limit) hs s }
     ensures message_sends { (limit : ℕ) (hs : List Entry) (s : State) → IsHistory (chained (map F.turn filters.now) limit) hs s → FramesAreBytes hs → AreMessageSends (map F.turn filters.now) hs s }
 {
     filters_are_lawful(filters);

@@ -79,7 +79,7 @@ module _ (M : Meaning) (lines : List (List ℕ)) (text : List ℕ) (a : Answered
       )
 
 module _ (plan : ClusterPlan) (lawful : All IsLawful (cluster_chain plan)) (lines : List (List ℕ)) (text : List ℕ) (a : Answered (cluster_meaning plan) lines text) where
-  pub replay_responses : AreOwnResponses a.history
+  pub replay_responses : AreOwnResponses (cluster_meaning plan) a.history a.last.state
   replay_responses = own_responses (cluster_chain plan) plan.in_flight lawful a.history a.last.state a.is_history (handed_bytes (cluster_meaning plan) lines text a)
 
   pub replay_sends : AreMessageSends (cluster_chain plan) a.history a.last.state

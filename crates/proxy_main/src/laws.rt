@@ -16,8 +16,9 @@ use conn_rules::told_law;
 
 /// What follows for every script whose lines were answered under a valid plan.
 pub fn replay_laws()
-    // The client was shown, for the first of its frames, one after another, its own response.
-    ensures own_responses { (plan : ClusterPlan) → IsValid plan → (lines : List (List ℕ)) (text : List ℕ) (a : Answered (cluster_meaning plan) lines text) → AreOwnResponses a.history }
+    // The client was shown the responses of the passed requests, one after another. These are the first of its frames, and each
+    // response is its request's own.
+    ensures own_responses { (plan : ClusterPlan) → IsValid plan → (lines : List (List ℕ)) (text : List ℕ) (a : Answered (cluster_meaning plan) lines text) → AreOwnResponses (cluster_meaning plan) a.history a.last.state }
     // The broker was sent whole messages of supported APIs and versions, and each request itself once at most, in the client's order.
     ensures message_sends { (plan : ClusterPlan) → IsValid plan → (lines : List (List ℕ)) (text : List ℕ) (a : Answered (cluster_meaning plan) lines text) → AreMessageSends (cluster_chain plan) a.history a.last.state }
     // Where an end of the client's stream was told, all requests are passed: each has had its response.

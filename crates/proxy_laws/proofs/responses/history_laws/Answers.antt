@@ -1,4 +1,4 @@
-use Rattle.proxy_laws.proofs.Sent.{own_responses, own_meanings, message_sends}
+use Rattle.proxy_laws.proofs.Sent.{own_responses, message_sends}
 use Rattle.proxy_laws.proofs.responses.history_laws.Goals as goal
 
 pub returns-clause-own_responses : goal.returns-clause-own_responses
@@ -6,6 +6,3 @@ returns-clause-own_responses c = λ chain limit hs s lawful. own_responses chain
 
 pub returns-clause-message_sends : goal.returns-clause-message_sends
 returns-clause-message_sends c = λ chain limit hs s lawful. message_sends chain limit lawful hs s
-
-pub returns-clause-own_meanings : goal.returns-clause-own_meanings
-returns-clause-own_meanings c = λ chain limit hs s lawful. own_meanings chain limit lawful hs s
