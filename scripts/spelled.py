@@ -1,8 +1,8 @@
-"""Writes bodies that the Python package kafka-python spells, for the tests of `tree_codec`.
+"""Writes bodies that the Python package kafka-python spells, as cases of `codec_cases`.
 
 Run `scripts/spell_with_kafka_python`. Each message of a version that the package and docs/MESSAGES.md both have is
-spelled once by the package. The places of its items come from `message_bodies.py`, which also reads every front of it,
-and it with a byte more, and has to find the place that the table says.
+spelled once by the package. The places of its items, and those of the faults of each front, of one byte more and of each bad
+length, come from `message_bodies.py`, which reads them. It has to find each fault at the item where it belongs.
 """
 
 import sys
@@ -11,25 +11,16 @@ from pathlib import Path
 import kafka
 from kafka.protocol import types
 
-from message_bodies import BadBody, Body, fields_of, read_body, tables
+from message_bodies import LENGTHS, BadBody, Body, fields_of, read_body, tables
 from messages import KNOWN, python_classes, source
 
-TEST = Path(__file__).resolve().parent.parent / "crates" / "tree_codec" / "src" / "kafka_python.rt"
+CRATE = Path(__file__).resolve().parent.parent / "crates" / "codec_cases"
 
-HEAD = """\
-// Bodies that kafka-python {version} spelled: name, key, version, direction, bytes, and the place of each item.
-// `scripts/spell_with_kafka_python` writes this file.
-use kp_schema::Dir;
+# The line of both files behind which all is written by this script.
+MARK = "# kafka-python "
 
-pub(crate) const SPELLED: [(
-    &'static str,
-    i16,
-    i16,
-    Dir,
-    &'static [u8],
-    &'static [u16],
-); {count}] = [
-"""
+# Lengths of -2, and lengths past the end of each body, by the size of the length.
+BAD_LENGTHS = {2: (b"\xff\xfe", b"\x7f\xff"), 4: (b"\xff\xff\xff\xfe", b"\x7f\xff\xff\xff")}
 
 
 class Numbers:
@@ -65,41 +56,63 @@ class Numbers:
 class Placed(Body):
     def __init__(self, data):
         super().__init__(data)
-        self.places = []
+        self.items = []
 
     def read_field(self, field):
-        self.places.append(self.at)
+        self.items.append((self.at, field.kind))
         return super().read_field(field)
 
 
-def places_of(data, key, version, direction):
+def items_of(data, key, version, direction):
+    """The place and the kind of each item."""
     body = Placed(data)
     for field in fields_of(key, version, direction):
         body.read_field(field)
     if body.at != len(data):
         raise BadBody(body.at)
-    return body.places
+    return body.items
 
 
-def place_of_fault(data, key, version, direction):
+def fault_of(data, key, version, direction):
     try:
         read_body(data, key, version, direction)
     except BadBody as fault:
-        return fault.place
-    return None
+        return fault
+    raise AssertionError(f"no fault: {key} {version} {direction} {data.hex()}")
 
 
-def hold(data, places, key, version, direction):
-    """The model finds the places that the test expects."""
-    for size in range(len(data)):
-        wanted = max(place for place in places if place <= size)
-        assert place_of_fault(data[:size], key, version, direction) == wanted, (key, version, direction, size)
-    assert place_of_fault(data + b"\0", key, version, direction) == len(data)
+def cases_of(data, key, version, direction):
+    """The lines that ask, and what is written for each."""
+    items = items_of(data, key, version, direction)
+    places = [place for place, _ in items]
+    yield f"decode {key} {version} {direction} {data.hex() or '-'}", words("spelled", places)
+    fronts = [fault_of(data[:size], key, version, direction).place for size in range(len(data))]
+    assert fronts == [max(place for place in places if place <= size) for size in range(len(data))]
+    yield "fronts", words("wrong-at", fronts)
+    assert fault_of(data + b"\0", key, version, direction).place == len(data)
+    yield f"with {len(data)} 00", f"not-spelled {len(data)}"
+    for place, kind in items:
+        for length in BAD_LENGTHS[LENGTHS[kind]] if kind in LENGTHS else ():
+            fault = fault_of(data[:place] + length + data[place + len(length) :], key, version, direction)
+            assert (fault.place, fault.is_too_many) == (place, kind == "Array" and length[0] == 0x7F)
+            yield f"with {place} {length.hex()}", f"{'too-many-entries' if fault.is_too_many else 'not-spelled'} {place}"
+
+
+def words(word, numbers):
+    return " ".join([word, *map(str, numbers)])
+
+
+def rewrite(name, lines):
+    """Puts these lines in the place of what stands behind the mark."""
+    path = CRATE / name
+    head = path.read_text().partition(MARK)[0]
+    path.write_text(head + "".join(line + "\n" for line in lines))
 
 
 def main():
     classes = python_classes()
-    rows = []
+    cases = [(f"{MARK}{kafka.__version__}", f"{MARK}{kafka.__version__}")]
+    count = 0
     for api in source():
         for direction in ("request", "response"):
             where = f"{api.name} {direction}"
@@ -115,15 +128,12 @@ def main():
                     # its schema has a type in place of a value of that type, so it can't spell the message
                     print(f"{where}, version {version}: the package can't spell it")
                     continue
-                places = places_of(data, api.key, version, direction)
-                hold(data, places, api.key, version, direction)
-                rows.append((where, api.key, version, direction, data, places))
-    text = HEAD.format(version=kafka.__version__, count=len(rows))
-    for where, key, version, direction, data, places in rows:
-        spelled = "".join(f"\\x{byte:02x}" for byte in data)
-        text += f'    ("{where}", {key}, {version}, Dir::{direction.title()}, b"{spelled}", &{places}),\n'
-    TEST.write_text(text + "];\n")
-    print(f"{len(rows)} bodies with {sum(len(row[4]) for row in rows)} bytes: {TEST.name}. Lay it out with rt fmt.")
+                count += 1
+                cases.append((f"# {where} {version}", f"# {where} {version}"))
+                cases.extend(cases_of(data, api.key, version, direction))
+    rewrite("stdin", [asked for asked, _ in cases])
+    rewrite("stdout", [answered for _, answered in cases])
+    print(f"{count} bodies, {len(cases)} lines: stdin and stdout of {CRATE.name}")
     return 0
 
 

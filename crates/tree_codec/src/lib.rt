@@ -42,8 +42,4 @@ pub use encoder::{append, encode};
 pub use tree_spelling::{EditFault, Item, Primitive};
 
 #[cfg(test)]
-mod kafka_python;
-#[cfg(test)]
-mod spelled_tests;
-#[cfg(test)]
 mod tests;
