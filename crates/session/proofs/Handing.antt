@@ -14,8 +14,8 @@ use Rattle.conn_rules.specs.declared.event.Reply.TheVariants as reply
 use Rattle.conn_rules.specs.Meaning.{Meaning}
 use Rattle.conn_rules.specs.State.{State}
 use Rattle.conn_rules.specs.History.{Entry}
-use Rattle.conn_rules.specs.Connections.{Follows, Brings}
-use Rattle.conn_rules.proofs.Brings.{brings_none, brings_one, brings_then}
+use Rattle.conn_rules.specs.Connections.{Follows, CountsWork, Brings}
+use Rattle.conn_rules.proofs.Brings.{brings_one}
 use Rattle.session.specs.declared.peer.Peer.{Peer}
 use Rattle.session.specs.declared.peer.Peer.TheVariants as peer
 use Rattle.session.specs.declared.receipt.Receipt.{Receipt}
@@ -25,6 +25,8 @@ use Rattle.session.specs.declared.told.Told.TheVariants as told
 use Rattle.session.specs.Peers.{least_size, most_size, frame_event, frame_receipt, frames_of_peer}
 use Rattle.session.specs.Streams.{Stream, with_rest, bad_size_events, end_events, tail_told}
 use Rattle.session.specs.Pushes.{entry_of, noted_entry, is_handed_on, is_refused, IsHandedOn, AreHandedOn, FrameInFront, StopsAtTail, Stops, IsPush}
+use Rattle.session.specs.Counting.{BringsCounted}
+use Rattle.session.proofs.Counting.{counted_none, counted_one, counted_then, counted_idle, noted_idle}
 use Rattle.session.proofs.Frames.{frames_append, handed, one_frame}
 
 -- a frame that was accepted or refused is handed on for good
@@ -78,15 +80,15 @@ hands_more before hs refused rest frame behind r o h front out for_good =
 
 module _ {C : Type 0} (meaning : C → Meaning) (stands : C → State → Type 0) where
   -- the first frames of a stream were handed on to a connection
-  pub record Handing (old : C) (before : Stream) (refused : Bool) (new : C) (now : Stream) : Type 0 where
+  pub record Handing (old : C) (before : Stream) (refused : Bool) (new : C) (now : Stream) (n m : ℕ) : Type 0 where
     pub entries : List Entry
-    pub brings : Brings meaning stands old entries new
+    pub brings : BringsCounted meaning stands old entries new n m
     pub rest : List ℕ
     pub delivered : AreHandedOn before entries refused rest
     pub now_is : now ≡ with_rest rest before
 
-  pub handing_none : (old : C) (s : Stream) → Handing old s false old s
-  handing_none old s = record { entries = []; brings = brings_none meaning stands old; rest = s.rest; delivered = hands_none s; now_is = refl }
+  pub handing_none : (old : C) (s : Stream) (n : ℕ) → Handing old s false old s n n
+  handing_none old s n = record { entries = []; brings = counted_none meaning stands old n; rest = s.rest; delivered = hands_none s; now_is = refl }
 
   -- the frame in front, as the stream stood at the start
   in_front : (before now : Stream) (rest frame behind : List ℕ) → now ≡ with_rest rest before → FrameInFront now frame behind → FrameInFront (with_rest rest before) frame behind
@@ -95,38 +97,38 @@ module _ {C : Type 0} (meaning : C → Meaning) (stands : C → State → Type 0
   left_is : (before now later : Stream) (rest : List ℕ) → now ≡ with_rest rest before → later ≡ with_rest later.rest now → later ≡ with_rest later.rest before
   left_is before now later rest e f = f ∙ ap (with_rest later.rest) e
 
-  pub handing_more : (old between new : C) (before now later : Stream) (refused : Bool) (p : Peer) (frame : List ℕ) (r : Reply) (o : Receipt)
-      → Handing old before refused between now → FrameInFront now frame later.rest → later ≡ with_rest later.rest now → p ≡ later.peer
-      → Follows meaning stands between (frame_event p frame) r new → frame_receipt p r ≡ Some o → is_handed_on (Some o) ≡ true
+  pub handing_more : (old between new : C) (before now later : Stream) (refused : Bool) (p : Peer) (frame : List ℕ) (r : Reply) (o : Receipt) (n m k : ℕ)
+      → Handing old before refused between now n m → FrameInFront now frame later.rest → later ≡ with_rest later.rest now → p ≡ later.peer
+      → Follows meaning stands between (frame_event p frame) r new → CountsWork meaning stands between (frame_event p frame) r m k → frame_receipt p r ≡ Some o → is_handed_on (Some o) ≡ true
       → (closed : Bool) → (refused || is_refused (Some o)) ≡ closed
-      → Handing old before closed new later
-  handing_more old between new before now later refused p frame r o h front later_is p_is follows out for_good closed closed_is =
+      → Handing old before closed new later n k
+  handing_more old between new before now later refused p frame r o n m k h front later_is p_is follows counts out for_good closed closed_is =
       let later_of = left_is before now later h.rest h.now_is later_is in
       let same : p ≡ before.peer = p_is ∙ ap (λ (s : Stream). s.peer) later_of in
       let e : Entry = entry_of (frame_event before.peer frame) r in
       record {
         entries = h.entries ++ e ∷ [];
-        brings = brings_then meaning stands old between new h.entries (e ∷ []) h.brings (brings_one meaning stands between new e (subst (λ q. Follows meaning stands between (frame_event q frame) r new) same follows));
+        brings = counted_then meaning stands old between new h.entries (e ∷ []) n m k h.brings (counted_one meaning stands between new e m k (subst (λ q. Follows meaning stands between (frame_event q frame) r new) same follows) (subst (λ q. CountsWork meaning stands between (frame_event q frame) r m k) same counts));
         rest = later.rest;
         delivered = subst (λ b. AreHandedOn before (h.entries ++ e ∷ []) b later.rest) closed_is (hands_more before h.entries refused h.rest frame later.rest r o h.delivered (in_front before now h.rest frame later.rest h.now_is front) (subst (λ q. frame_receipt q r ≡ Some o) same out) for_good);
         now_is = later_of;
       }
 
   -- what a push did, and how it ended
-  abbrev pub Pushed : C → Stream → Result Told NoMemory → C → Stream → Type 0
-  Pushed old before result new after = (hs : List Entry) × Brings meaning stands old hs new × IsPush before hs result after
+  abbrev pub Pushed : C → Stream → Result Told NoMemory → C → Stream → (n k : ℕ) → Type 0
+  Pushed old before result new after n k = (hs : List Entry) × BringsCounted meaning stands old hs new n k × IsPush before hs result after
 
-  pub pushed_full : (old between new : C) (before now later after : Stream) (refused : Bool) (p : Peer) (frame : List ℕ) (r : Reply)
-      → Handing old before refused between now → FrameInFront now frame later.rest → later ≡ with_rest later.rest now → p ≡ later.peer
-      → Follows meaning stands between (frame_event p frame) r new → frame_receipt p r ≡ Some (receipt.Full frame) → after ≡ with_rest (sized frame ++ later.rest) later
-      → Pushed old before (Ok told.Full) new after
-  pushed_full old between new before now later after refused p frame r h front later_is p_is follows out after_is =
+  pub pushed_full : (old between new : C) (before now later after : Stream) (refused : Bool) (p : Peer) (frame : List ℕ) (r : Reply) (n m k : ℕ)
+      → Handing old before refused between now n m → FrameInFront now frame later.rest → later ≡ with_rest later.rest now → p ≡ later.peer
+      → Follows meaning stands between (frame_event p frame) r new → CountsWork meaning stands between (frame_event p frame) r m k → frame_receipt p r ≡ Some (receipt.Full frame) → after ≡ with_rest (sized frame ++ later.rest) later
+      → Pushed old before (Ok told.Full) new after n k
+  pushed_full old between new before now later after refused p frame r n m k h front later_is p_is follows counts out after_is =
       let later_of = left_is before now later h.rest h.now_is later_is in
       let same : p ≡ before.peer = p_is ∙ ap (λ (s : Stream). s.peer) later_of in
       let e : Entry = entry_of (frame_event before.peer frame) r in
       let there = in_front before now h.rest frame later.rest h.now_is front in (
         h.entries ++ e ∷ [],
-        brings_then meaning stands old between new h.entries (e ∷ []) h.brings (brings_one meaning stands between new e (subst (λ q. Follows meaning stands between (frame_event q frame) r new) same follows)),
+        counted_then meaning stands old between new h.entries (e ∷ []) n m k h.brings (counted_one meaning stands between new e m k (subst (λ q. Follows meaning stands between (frame_event q frame) r new) same follows) (subst (λ q. CountsWork meaning stands between (frame_event q frame) r m k) same counts)),
         record {
           first = h.entries;
           refused = refused;
@@ -146,16 +148,16 @@ module _ {C : Type 0} (meaning : C → Meaning) (stands : C → State → Type 0
         },
       )
 
-  pub pushed_lost : (old between new : C) (before now later : Stream) (refused : Bool) (p : Peer) (frame : List ℕ) (r : Reply) (e : NoMemory)
-      → Handing old before refused between now → FrameInFront now frame later.rest → later ≡ with_rest later.rest now → p ≡ later.peer
-      → Follows meaning stands between (frame_event p frame) r new → frame_receipt p r ≡ Some receipt.NoMemory
-      → Pushed old before (Err e) new later
-  pushed_lost old between new before now later refused p frame r why h front later_is p_is follows out =
+  pub pushed_lost : (old between new : C) (before now later : Stream) (refused : Bool) (p : Peer) (frame : List ℕ) (r : Reply) (e : NoMemory) (n m k : ℕ)
+      → Handing old before refused between now n m → FrameInFront now frame later.rest → later ≡ with_rest later.rest now → p ≡ later.peer
+      → Follows meaning stands between (frame_event p frame) r new → CountsWork meaning stands between (frame_event p frame) r m k → frame_receipt p r ≡ Some receipt.NoMemory
+      → Pushed old before (Err e) new later n k
+  pushed_lost old between new before now later refused p frame r why n m k h front later_is p_is follows counts out =
       let later_of = left_is before now later h.rest h.now_is later_is in
       let same : p ≡ before.peer = p_is ∙ ap (λ (s : Stream). s.peer) later_of in
       let e : Entry = entry_of (frame_event before.peer frame) r in (
         h.entries ++ e ∷ [],
-        brings_then meaning stands old between new h.entries (e ∷ []) h.brings (brings_one meaning stands between new e (subst (λ q. Follows meaning stands between (frame_event q frame) r new) same follows)),
+        counted_then meaning stands old between new h.entries (e ∷ []) n m k h.brings (counted_one meaning stands between new e m k (subst (λ q. Follows meaning stands between (frame_event q frame) r new) same follows) (subst (λ q. CountsWork meaning stands between (frame_event q frame) r m k) same counts)),
         record {
           first = h.entries;
           refused = refused;
@@ -175,14 +177,14 @@ module _ {C : Type 0} (meaning : C → Meaning) (stands : C → State → Type 0
         },
       )
 
-  pub pushed_kept : (old between new : C) (before now later : Stream) (refused : Bool) (e : NoMemory)
-      → Handing old before refused between now → BeginsFrame (least_size now.peer) (most_size now.peer) now.rest → later ≡ now
+  pub pushed_kept : (old between new : C) (before now later : Stream) (refused : Bool) (e : NoMemory) (n m : ℕ)
+      → Handing old before refused between now n m → BeginsFrame (least_size now.peer) (most_size now.peer) now.rest → later ≡ now
       → Follows meaning stands between (event.Fault fault.NoMemory) reply.Noted new
-      → Pushed old before (Err e) new later
-  pushed_kept old between new before now later refused why h begins same follows =
+      → Pushed old before (Err e) new later n m
+  pushed_kept old between new before now later refused why n m h begins same follows =
       let e : Entry = noted_entry (event.Fault fault.NoMemory) in (
         h.entries ++ e ∷ [],
-        brings_then meaning stands old between new h.entries (e ∷ []) h.brings (brings_one meaning stands between new e follows),
+        counted_then meaning stands old between new h.entries (e ∷ []) n m m h.brings (counted_idle meaning stands between new (e ∷ []) m (brings_one meaning stands between new e follows) (refl, tt)),
         record {
           first = h.entries;
           refused = refused;
@@ -202,15 +204,15 @@ module _ {C : Type 0} (meaning : C → Meaning) (stands : C → State → Type 0
   stops_told true now last after s = (refl, s)
   stops_told false now last after s = (refl, s)
 
-  pub pushed_all : (old between new : C) (before now later after : Stream) (refused : Bool) (answered : Told)
-      → Handing old before refused between now → IsTail (least_size now.peer) (most_size now.peer) now.rest → later ≡ now
+  pub pushed_all : (old between new : C) (before now later after : Stream) (refused : Bool) (answered : Told) (n m : ℕ)
+      → Handing old before refused between now n m → IsTail (least_size now.peer) (most_size now.peer) now.rest → later ≡ now
       → Brings meaning stands between (map noted_entry (bad_size_events later ++ end_events later)) new → after ≡ tail_told later → answered ≡ (if refused then told.Closed else told.Fine)
-      → Pushed old before (Ok answered) new after
-  pushed_all old between new before now later after refused answered h tail same brings after_is answered_is =
+      → Pushed old before (Ok answered) new after n m
+  pushed_all old between new before now later after refused answered n m h tail same brings after_is answered_is =
       let there : later ≡ with_rest h.rest before = same ∙ h.now_is in
       let last : List Entry = map noted_entry (bad_size_events (with_rest h.rest before) ++ end_events (with_rest h.rest before)) in (
         h.entries ++ last,
-        brings_then meaning stands old between new h.entries last h.brings (subst (λ s. Brings meaning stands between (map noted_entry (bad_size_events s ++ end_events s)) new) there brings),
+        counted_then meaning stands old between new h.entries last n m m h.brings (counted_idle meaning stands between new last m (subst (λ s. Brings meaning stands between (map noted_entry (bad_size_events s ++ end_events s)) new) there brings) (noted_idle (bad_size_events (with_rest h.rest before) ++ end_events (with_rest h.rest before)))),
         record {
           first = h.entries;
           refused = refused;

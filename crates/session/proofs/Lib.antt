@@ -3,3 +3,4 @@ pub mod Handing
 pub mod Pieces
 pub mod Streaming
 pub mod Showing
+pub mod Counting

@@ -3,3 +3,4 @@ pub mod Streams
 pub mod Pushes
 pub mod Calls
 pub mod Sides
+pub mod Counting

@@ -1,5 +1,5 @@
 -- What a push does: it hands on the frames of a stream, one after another, as far as there is room.
-use Rattle.std.specs.Prelude.{◌≡◌, ℕ, ◌++◌, Bool, true, false, List, [], ◌∷◌, map, All, Option, Some, None, Result, Ok, Err, ◌⊎◌}
+use Rattle.std.specs.Prelude.{◌≡◌, ℕ, ◌++◌, Bool, true, false, List, [], ◌∷◌, map, All, Option, Some, Result, Ok, Err, ◌⊎◌}
 use Rattle.std.specs.List.{flat_map, list_any}
 use Rattle.kp_edge.specs.declared.no_memory.NoMemory.{NoMemory}
 use Rattle.framing.specs.Frames.{sized, IsFrame, BeginsFrame, IsTail}

@@ -1,6 +1,6 @@
 ghost use Rattle.std.specs.Prelude.{◌≡◌, ◌≤◌, length, Some};
 ghost use Rattle.conn_rules.specs.declared.event.Reply.{Reply};
-ghost use Rattle.conn_rules.specs.Connections.{Follows};
+ghost use Rattle.conn_rules.specs.Connections.{Follows, CountsWork};
 ghost use Rattle.session.specs.Peers.{least_size, frame_event, frame_receipt};
 ghost use Rattle.session.specs.Sides.{ComesBack};
 
@@ -19,7 +19,7 @@ pub(crate) fn hand_on<C: Connection, L>(
 ) -> Receipt
     requires { least_size peer ≤ length frame }
     ensures follows { (r : Reply) × Follows C.meaning C.stands connection.old (frame_event peer frame) r connection.new
-        × (frame_receipt peer r ≡ Some result) }
+        × CountsWork C.meaning C.stands connection.old (frame_event peer frame) r steps.old steps.new × (frame_receipt peer r ≡ Some result) }
     ensures back { ComesBack frame result }
 {
     match peer {
@@ -31,7 +31,7 @@ pub(crate) fn hand_on<C: Connection, L>(
 fn take<C: Connection, L>(frame: Bytes, connection: &mut C, steps: &mut Steps<L>) -> Receipt
     requires { 8 ≤ length frame }
     ensures follows { (r : Reply) × Follows C.meaning C.stands connection.old (frame_event Peer.Client frame) r connection.new
-        × (frame_receipt Peer.Client r ≡ Some result) }
+        × CountsWork C.meaning C.stands connection.old (frame_event Peer.Client frame) r steps.old steps.new × (frame_receipt Peer.Client r ≡ Some result) }
     ensures back { ComesBack frame result }
 {
     match connection.take(frame, steps) {
@@ -51,7 +51,7 @@ fn take<C: Connection, L>(frame: Bytes, connection: &mut C, steps: &mut Steps<L>
 fn answer<C: Connection, L>(frame: Bytes, connection: &mut C, steps: &mut Steps<L>) -> Receipt
     requires { 4 ≤ length frame }
     ensures follows { (r : Reply) × Follows C.meaning C.stands connection.old (frame_event Peer.Broker frame) r connection.new
-        × (frame_receipt Peer.Broker r ≡ Some result) }
+        × CountsWork C.meaning C.stands connection.old (frame_event Peer.Broker frame) r steps.old steps.new × (frame_receipt Peer.Broker r ≡ Some result) }
     ensures back { ComesBack frame result }
 {
     match connection.answer(frame, steps) {

@@ -2,7 +2,7 @@ ghost use Rattle.std.specs.Prelude.{◌≡◌, ℕ, List, [], ◌++◌, Bool, Re
 ghost use Rattle.kp_edge.specs.declared.no_memory.NoMemory.{NoMemory};
 ghost use Rattle.framing.specs.Frames.{IsTail};
 ghost use Rattle.framing.specs.Cuts.{Cuts};
-ghost use Rattle.conn_rules.specs.History.{Entry, AreFirst, out};
+ghost use Rattle.conn_rules.specs.History.{Entry, AreFirst, out, sent};
 ghost use Rattle.session.specs.declared.peer.Peer.{Peer};
 ghost use Rattle.session.specs.declared.told.Told.{Told};
 ghost use Rattle.session.specs.Peers.{least_size, most_size, frames_of_peer};
@@ -42,6 +42,14 @@ pub fn stream_laws()
         → IsPush s ks result t → out ks ≡ [] }
     ensures silent_end { (s t : Stream) (ks : List Entry) (result : Result Told NoMemory)
         → IsEnd s ks result t → out ks ≡ [] }
+
+    // Nor the broker.
+    ensures unsent_piece { (s t : Stream) (piece : List ℕ) (ks : List Entry) (told : Told)
+        → IsPiece s piece ks (Ok told) t → sent ks ≡ [] }
+    ensures unsent_push { (s t : Stream) (ks : List Entry) (result : Result Told NoMemory)
+        → IsPush s ks result t → sent ks ≡ [] }
+    ensures unsent_end { (s t : Stream) (ks : List Entry) (result : Result Told NoMemory)
+        → IsEnd s ks result t → sent ks ≡ [] }
 
     // Whatever else came behind: these are the first frames of the stream's cut, and all of them once no whole frame
     // is left.

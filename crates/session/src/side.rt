@@ -9,6 +9,7 @@ ghost use Rattle.session.specs.Peers.{least_size, most_size, bad_size_fault, end
 ghost use Rattle.session.specs.Streams.{fresh_stream, with_piece, tail_fault, bad_size_events, end_events, tail_told};
 ghost use Rattle.session.specs.Pushes.{noted_entry, IsPush};
 ghost use Rattle.session.specs.Calls.{IsPiece, TakesPiece, IsEnd, Ends};
+ghost use Rattle.session.specs.Counting.{BringsCounted};
 
 use crate::hand_on::hand_on;
 use crate::peer::Peer;
@@ -71,7 +72,7 @@ impl Side {
         connection: &mut C,
         steps: &mut Steps<L>,
     ) -> Result<Told, NoMemory>
-        ensures { (hs : List Entry) × Brings C.meaning C.stands connection.old hs connection.new
+        ensures { (hs : List Entry) × BringsCounted C.meaning C.stands connection.old hs connection.new steps.old steps.new
             × IsPiece (stream_of self.old) piece.now hs result (stream_of self.new) }
     {
         if self.ended {
@@ -89,7 +90,7 @@ impl Side {
         connection: &mut C,
         steps: &mut Steps<L>,
     ) -> Result<Told, NoMemory>
-        ensures { (hs : List Entry) × Brings C.meaning C.stands connection.old hs connection.new
+        ensures { (hs : List Entry) × BringsCounted C.meaning C.stands connection.old hs connection.new steps.old steps.new
             × IsPush (stream_of self.old) hs result (stream_of self.new) }
     {
         let mut refused = false;

@@ -2,10 +2,11 @@ ghost use Rattle.std.specs.Prelude.{◌≡◌, List, Result};
 ghost use Rattle.conn_rules.specs.declared.event.Event.TheVariants as event;
 ghost use Rattle.conn_rules.specs.declared.event.Reply.TheVariants as reply;
 ghost use Rattle.conn_rules.specs.History.{Entry};
-ghost use Rattle.conn_rules.specs.Connections.{Follows, Brings};
+ghost use Rattle.conn_rules.specs.Connections.{Follows, Brings, CountsWork};
 ghost use Rattle.session.specs.Streams.{fresh_stream};
 ghost use Rattle.session.specs.Pushes.{IsPush};
 ghost use Rattle.session.specs.Calls.{IsPiece, IsEnd, IsToldOf};
+ghost use Rattle.session.specs.Counting.{BringsCounted};
 
 use crate::peer::Peer;
 use crate::side::Side;
@@ -21,6 +22,9 @@ use std::marker::Model;
 /// Each call tells what it did as entries of a history: the connection went from the value that it was to the value
 /// that it is by these events and replies. Want of memory is among them. It is the connection's own answer, or is told to
 /// it as a fault, and in both cases the connection halts.
+///
+/// A call counts in `steps` what the connection counts at the frames and verdicts that it is handed. As long as the
+/// connection finds memory, these are the steps by which the work of its requests grows. The end of a stream counts none.
 #[derive(Drop)]
 pub struct Station<C> {
     connection: C,
@@ -51,7 +55,7 @@ impl<C: Connection> Station<C> {
 
     /// A piece of the client's stream comes. Frames of 8 to 104,857,600 bytes are handed on.
     pub fn client<L>(&mut self, piece: &[u8], steps: &mut Steps<L>) -> Result<Told, NoMemory>
-        ensures piece { (hs : List Entry) × Brings C.meaning C.stands self.old.connection hs self.new.connection
+        ensures piece { (hs : List Entry) × BringsCounted C.meaning C.stands self.old.connection hs self.new.connection steps.old steps.new
             × IsPiece self.old.client piece.now hs result self.new.client }
         ensures broker { self.new.broker ≡ self.old.broker }
     {
@@ -60,7 +64,7 @@ impl<C: Connection> Station<C> {
 
     /// A piece of the broker's stream comes. Frames of 4 to 134,217,728 bytes are handed on.
     pub fn broker<L>(&mut self, piece: &[u8], steps: &mut Steps<L>) -> Result<Told, NoMemory>
-        ensures piece { (hs : List Entry) × Brings C.meaning C.stands self.old.connection hs self.new.connection
+        ensures piece { (hs : List Entry) × BringsCounted C.meaning C.stands self.old.connection hs self.new.connection steps.old steps.new
             × IsPiece self.old.broker piece.now hs result self.new.broker }
         ensures client { self.new.client ≡ self.old.client }
     {
@@ -71,6 +75,7 @@ impl<C: Connection> Station<C> {
     pub fn client_end<L>(&mut self, _steps: &mut Steps<L>) -> Result<Told, NoMemory>
         ensures end { (hs : List Entry) × Brings C.meaning C.stands self.old.connection hs self.new.connection
             × IsEnd self.old.client hs result self.new.client }
+        ensures uncounted { _steps.new ≡ _steps.old }
         ensures broker { self.new.broker ≡ self.old.broker }
     {
         self.client.end(&mut self.connection)
@@ -80,6 +85,7 @@ impl<C: Connection> Station<C> {
     pub fn broker_end<L>(&mut self, _steps: &mut Steps<L>) -> Result<Told, NoMemory>
         ensures end { (hs : List Entry) × Brings C.meaning C.stands self.old.connection hs self.new.connection
             × IsEnd self.old.broker hs result self.new.broker }
+        ensures uncounted { _steps.new ≡ _steps.old }
         ensures client { self.new.client ≡ self.old.client }
     {
         self.broker.end(&mut self.connection)
@@ -87,7 +93,7 @@ impl<C: Connection> Station<C> {
 
     /// Tries a client's frame again that found no room, and those behind it.
     pub fn retake<L>(&mut self, steps: &mut Steps<L>) -> Result<Told, NoMemory>
-        ensures push { (hs : List Entry) × Brings C.meaning C.stands self.old.connection hs self.new.connection
+        ensures push { (hs : List Entry) × BringsCounted C.meaning C.stands self.old.connection hs self.new.connection steps.old steps.new
             × IsPush self.old.client hs result self.new.client }
         ensures broker { self.new.broker ≡ self.old.broker }
     {
@@ -102,7 +108,8 @@ impl<C: Connection> Station<C> {
         verdict: Blob,
         steps: &mut Steps<L>,
     ) -> Result<Told, NoMemory>
-        ensures done { (r : Result (Unit {0}) CompleteFault) × Follows C.meaning C.stands self.old.connection (event.Complete request index verdict) (reply.Complete r) self.new.connection × IsToldOf r result }
+        ensures done { (r : Result (Unit {0}) CompleteFault) × Follows C.meaning C.stands self.old.connection (event.Complete request index verdict) (reply.Complete r) self.new.connection
+            × CountsWork C.meaning C.stands self.old.connection (event.Complete request index verdict) (reply.Complete r) steps.old steps.new × IsToldOf r result }
         ensures client { self.new.client ≡ self.old.client }
         ensures broker { self.new.broker ≡ self.old.broker }
     {

@@ -2,6 +2,7 @@ use Rattle.std.proofs.Common.{◌∷◌, [], refl, ap, inr, subst}
 use Rattle.conn_rules.specs.declared.event.Event.TheVariants as event
 use Rattle.conn_rules.specs.declared.event.Fault.TheVariants as fault
 use Rattle.conn_rules.proofs.Brings.{brings_one}
+use Rattle.session.proofs.Counting.{counted_idle}
 use Rattle.session.specs.Pushes.{noted_entry, IsPush}
 use Rattle.session.specs.Sides.{stream_of}
 use Rattle.session.proofs.Pieces.{from_open, nonempty, with_piece_is, takes_piece, side_stream}
@@ -19,7 +20,7 @@ returns-in-Err g c =
     let side = c.args.self.now in
     let e = noted_entry (event.Fault fault.NoMemory) in (
       e ∷ [],
-      brings_one g.C.Connection.meaning g.C.Connection.stands c.args.connection.now c.out_of_memory.new.connection e c.out_of_memory.ensures,
+      counted_idle g.C.Connection.meaning g.C.Connection.stands c.args.connection.now c.out_of_memory.new.connection (e ∷ []) c.args.steps.now (brings_one g.C.Connection.meaning g.C.Connection.stands c.args.connection.now c.out_of_memory.new.connection e c.out_of_memory.ensures) (refl, tt),
       from_open side.ended _ _ c.if-self.false (inr (record {
         some = nonempty c.args.piece.now (λ none. let ok = c.in-Err.ensures.nothing none in cc);
         told = refl;
