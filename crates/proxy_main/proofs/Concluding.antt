@@ -36,53 +36,57 @@ partly_written M lines waits more put first now after w is f =
     }
 
 -- the text is written with its status, or a front of it with that of a write that failed
-concluded : (M : Meaning) (script text : List ℕ) (lines : List (List ℕ)) (waits more put : List ℕ) (left first now after : Option (List ℕ)) (s result : Status) (w : Waiting M lines waits first now) → put ≡ waits ++ more → w.text ++ more ≡ text → Replays M script left text s → IsTextOf M script left text → WritesOut put s now after result → Concluded M script left first after result
-concluded M script text lines waits more put left first now after s result w is text_is replays text_of (inl done) =
+concluded : (M : Meaning) (begun count : ℕ) (script text : List ℕ) (lines : List (List ℕ)) (waits more put : List ℕ) (left first now after : Option (List ℕ)) (s result : Status) (w : Waiting M lines waits first now) → put ≡ waits ++ more → w.text ++ more ≡ text → Replays M script left text begun count s → IsTextOf M script left text begun count → WritesOut put s now after result → Concluded M script left first after begun count result
+concluded M begun count script text lines waits more put left first now after s result w is text_is replays text_of (inl done) =
     record {
       written = text;
       appends = subst (λ xs. Appends first xs after) text_is (all_written M lines waits more put first now after w is done.1);
-      replays = subst (Replays M script left text) (sym done.0) replays;
+      replays = subst (Replays M script left text begun count) (sym done.0) replays;
     }
-concluded M script text lines waits more put left first now after s result w is text_is replays text_of (inr failed) =
+concluded M begun count script text lines waits more put left first now after s result w is text_is replays text_of (inr failed) =
     let p = partly_written M lines waits more put first now after w is failed.1 in
     record {
       written = p.written;
       appends = p.appends;
-      replays = subst (Replays M script left p.written) (sym failed.0) (record { text = text; missing = p.missing; text_of = text_of; front = sym text_is ∙ p.front });
+      replays = subst (Replays M script left p.written begun count) (sym failed.0) (record { text = text; missing = p.missing; text_of = text_of; front = sym text_is ∙ p.front });
     }
 
 nothing_more : (xs : List ℕ) → xs ≡ xs ++ []
 nothing_more xs = sym (append_nil xs)
 
-whole_of : {C : Type 0} (M : Meaning) (script : List ℕ) (x : Replay C) (left first now : Option (List ℕ)) (e : EndsWhole M script x left first now) → Whole M script e.waiting.text
-whole_of M script x left first now e = record { lines = e.lines; script_is = e.script_is; within = e.within; answered = e.waiting.answered }
+whole_of : {C L : Type 0} (M : Meaning) (begun : ℕ) (script : List ℕ) (x : Replay C L) (left first now : Option (List ℕ)) (e : EndsWhole M begun script x left first now) → Whole M script e.waiting.text begun x.steps
+whole_of M begun script x left first now e = record { lines = e.lines; script_is = e.script_is; within = e.within; answered = e.waiting.answered; counted = e.counted }
 
 -- a script that was answered whole is a front of itself
-front_of_whole : {C : Type 0} (M : Meaning) (script : List ℕ) (x : Replay C) (left first now : Option (List ℕ)) (e : EndsWhole M script x left first now) → Front M script e.waiting.text
-front_of_whole M script x left first now e = record { lines = e.lines; others = []; script_is = subst (Script script) (no_lines_more e.lines) e.script_is; answered = e.waiting.answered }
+front_of_whole : {C L : Type 0} (M : Meaning) (begun : ℕ) (script : List ℕ) (x : Replay C L) (left first now : Option (List ℕ)) (e : EndsWhole M begun script x left first now) → Front M script e.waiting.text
+front_of_whole M begun script x left first now e = record { lines = e.lines; others = []; script_is = subst (Script script) (no_lines_more e.lines) e.script_is; answered = e.waiting.answered }
   where
     no_lines_more : (xs : List (List ℕ)) → xs ≡ xs ++ []
     no_lines_more [] = refl
     no_lines_more (x ∷ xs) = ap (λ ys. x ∷ ys) (no_lines_more xs)
 
-pub concludes_whole : {C : Type 0} (x : Replay C) (before after : Option (List ℕ)) (result : Status) → WritesOut x.answers status.Done before after result → Concludes x (Ok tt) before after result
-concludes_whole x before after result wrote M script left first e =
-    concluded M script e.waiting.text e.lines x.answers [] x.answers left first before after status.Done result e.waiting (nothing_more x.answers) (append_nil e.waiting.text) (whole_of M script x left first before e) (inl (front_of_whole M script x left first before e)) wrote
+pub concludes_whole : {C L : Type 0} (x : Replay C L) (before after : Option (List ℕ)) (result : Status) → WritesOut x.answers status.Done before after result → Concludes x (Ok tt) before after result
+concludes_whole x before after result wrote M begun script left first e =
+    concluded M begun x.steps script e.waiting.text e.lines x.answers [] x.answers left first before after status.Done result e.waiting (nothing_more x.answers) (append_nil e.waiting.text) (whole_of M begun script x left first before e) (inl (front_of_whole M begun script x left first before e)) wrote
 
-front_of_early : (M : Meaning) (script waits : List ℕ) (first now : Option (List ℕ)) (e : EndsEarly M script waits first now) → Front M script e.waiting.text
+abbrev front_of_early : (M : Meaning) (script waits : List ℕ) (first now : Option (List ℕ)) (e : EndsEarly M script waits first now) → Front M script e.waiting.text
 front_of_early M script waits first now e = record { lines = e.lines; others = e.others; script_is = e.script_is; answered = e.waiting.answered }
 
-pub concludes_memory : {C : Type 0} (x : Replay C) (before after : Option (List ℕ)) (result : Status) → WritesOut x.answers status.NoMemory before after result → Concludes x (Err stop.NoMemory) before after result
-concludes_memory x before after result wrote M script left first e =
-    concluded M script e.waiting.text e.lines x.answers [] x.answers left first before after status.NoMemory result e.waiting (nothing_more x.answers) (append_nil e.waiting.text) (front_of_early M script x.answers first before e) (inl (front_of_early M script x.answers first before e)) wrote
+pub concludes_memory : {C L : Type 0} (x : Replay C L) (before after : Option (List ℕ)) (result : Status) → WritesOut x.answers status.NoMemory before after result → Concludes x (Err stop.NoMemory) before after result
+concludes_memory x before after result wrote M begun script left first e =
+    concluded M begun x.steps script e.waiting.text e.lines x.answers [] x.answers left first before after status.NoMemory result e.waiting (nothing_more x.answers) (append_nil e.waiting.text) (front_of_early M script x.answers first before e) (inl (front_of_early M script x.answers first before e)) wrote
 
-pub concludes_input : {C : Type 0} (x : Replay C) (before : Option (List ℕ)) → Concludes x (Err stop.Input) before before status.InputFault
-concludes_input x before M script left first e =
-    let f = front_of_early M script [] first before e in
-    record { written = e.waiting.text; appends = subst (λ xs. Appends first xs before) (sym (e.waiting.parts ∙ append_nil e.waiting.written)) e.waiting.appends; replays = f }
+pub concludes_input : {C L : Type 0} (x : Replay C L) (before : Option (List ℕ)) → Concludes x (Err stop.Input) before before status.InputFault
+concludes_input x before M begun script left first e =
+    let early = e.early in
+    record {
+      written = early.waiting.text;
+      appends = subst (λ xs. Appends first xs before) (sym (early.waiting.parts ∙ append_nil early.waiting.written)) early.waiting.appends;
+      replays = record { front = front_of_early M script [] first before early; counted = e.counted };
+    }
 
-pub concludes_output : {C : Type 0} (x : Replay C) (before : Option (List ℕ)) → Concludes x (Err stop.Output) before before status.OutputFault
-concludes_output x before M script left first e =
+pub concludes_output : {C L : Type 0} (x : Replay C L) (before : Option (List ℕ)) → Concludes x (Err stop.Output) before before status.OutputFault
+concludes_output x before M begun script left first e =
     let early = e.1 in
     record {
       written = early.waiting.written;
@@ -91,8 +95,8 @@ concludes_output x before M script left first e =
     }
 
 -- a line that says nothing
-bad_line_of : {C : Type 0} (M : Meaning) (script : List ℕ) (x : Replay C) (left first now : Option (List ℕ)) (e : EndsAtLine M piece_limit script x left first now) → BadLine M script left (e.waiting.text ++ bad_line_text (x.lines + 1))
-bad_line_of M script x left first now e =
+bad_line_of : {C L : Type 0} (M : Meaning) (begun : ℕ) (script : List ℕ) (x : Replay C L) (left first now : Option (List ℕ)) (e : EndsAtLine M begun piece_limit script x left first now) → BadLine M script left (e.waiting.text ++ bad_line_text (x.lines + 1)) begun x.steps
+bad_line_of M begun script x left first now e =
     record {
       lines = e.lines;
       bad = e.bad;
@@ -103,39 +107,40 @@ bad_line_of M script x left first now e =
       not_ended = e.not_ended;
       answers = e.waiting.text;
       answered = e.waiting.answered;
+      counted = e.counted;
       text_is = ap (λ n. e.waiting.text ++ bad_line_text (n + 1)) e.count;
     }
 
-front_at_line : {C : Type 0} (M : Meaning) (script : List ℕ) (x : Replay C) (left first now : Option (List ℕ)) (e : EndsAtLine M piece_limit script x left first now) → Front M script e.waiting.text
-front_at_line M script x left first now e = record { lines = e.lines; others = e.bad ∷ e.others; script_is = e.script_is; answered = e.waiting.answered }
+front_at_line : {C L : Type 0} (M : Meaning) (begun : ℕ) (script : List ℕ) (x : Replay C L) (left first now : Option (List ℕ)) (e : EndsAtLine M begun piece_limit script x left first now) → Front M script e.waiting.text
+front_at_line M begun script x left first now e = record { lines = e.lines; others = e.bad ∷ e.others; script_is = e.script_is; answered = e.waiting.answered }
 
-pub concludes_line : {C : Type 0} (x : Replay C) (put : List ℕ) (before after : Option (List ℕ)) (s result : Status) → Refuses x.answers (bad_line_text (x.lines + 1)) put s → WritesOut put s before after result → Concludes x (Err stop.BadLine) before after result
-concludes_line x put before after s result (inl refused) wrote M script left first e =
-    let b = bad_line_of M script x left first before e in
-    concluded M script (e.waiting.text ++ bad_line_text (x.lines + 1)) e.lines x.answers (bad_line_text (x.lines + 1)) put left first before after status.Refused result e.waiting refused.1 refl (inl b) (inr (inl b)) (subst (λ t. WritesOut put t before after result) refused.0 wrote)
-concludes_line x put before after s result (inr memory) wrote M script left first e =
-    let f = front_at_line M script x left first before e in
-    concluded M script e.waiting.text e.lines x.answers [] put left first before after status.NoMemory result e.waiting (memory.1 ∙ nothing_more x.answers) (append_nil e.waiting.text) f (inl f) (subst (λ t. WritesOut put t before after result) memory.0 wrote)
+pub concludes_line : {C L : Type 0} (x : Replay C L) (put : List ℕ) (before after : Option (List ℕ)) (s result : Status) → Refuses x.answers (bad_line_text (x.lines + 1)) put s → WritesOut put s before after result → Concludes x (Err stop.BadLine) before after result
+concludes_line x put before after s result (inl refused) wrote M begun script left first e =
+    let b = bad_line_of M begun script x left first before e in
+    concluded M begun x.steps script (e.waiting.text ++ bad_line_text (x.lines + 1)) e.lines x.answers (bad_line_text (x.lines + 1)) put left first before after status.Refused result e.waiting refused.1 refl (inl b) (inr (inl b)) (subst (λ t. WritesOut put t before after result) refused.0 wrote)
+concludes_line x put before after s result (inr memory) wrote M begun script left first e =
+    let f = front_at_line M begun script x left first before e in
+    concluded M begun x.steps script e.waiting.text e.lines x.answers [] put left first before after status.NoMemory result e.waiting (memory.1 ∙ nothing_more x.answers) (append_nil e.waiting.text) f (inl f) (subst (λ t. WritesOut put t before after result) memory.0 wrote)
 
 -- a script that is too long
-too_long_of : {C : Type 0} (M : Meaning) (script : List ℕ) (x : Replay C) (first now : Option (List ℕ)) (e : EndsTooLong M script x first now) → TooLong M script (e.waiting.text ++ too_long_text)
-too_long_of M script x first now e = record { lines = e.lines; script_is = e.script_is; beyond = e.beyond; answers = e.waiting.text; answered = e.waiting.answered; text_is = refl }
+too_long_of : {C L : Type 0} (M : Meaning) (begun : ℕ) (script : List ℕ) (x : Replay C L) (first now : Option (List ℕ)) (e : EndsTooLong M begun script x first now) → TooLong M script (e.waiting.text ++ too_long_text) begun x.steps
+too_long_of M begun script x first now e = record { lines = e.lines; script_is = e.script_is; beyond = e.beyond; answers = e.waiting.text; answered = e.waiting.answered; counted = e.counted; text_is = refl }
 
-front_too_long : {C : Type 0} (M : Meaning) (script : List ℕ) (x : Replay C) (first now : Option (List ℕ)) (e : EndsTooLong M script x first now) → Front M script e.waiting.text
-front_too_long M script x first now e = record { lines = e.lines; others = []; script_is = subst (Script script) (no_lines_more e.lines) e.script_is; answered = e.waiting.answered }
+front_too_long : {C L : Type 0} (M : Meaning) (begun : ℕ) (script : List ℕ) (x : Replay C L) (first now : Option (List ℕ)) (e : EndsTooLong M begun script x first now) → Front M script e.waiting.text
+front_too_long M begun script x first now e = record { lines = e.lines; others = []; script_is = subst (Script script) (no_lines_more e.lines) e.script_is; answered = e.waiting.answered }
   where
     no_lines_more : (xs : List (List ℕ)) → xs ≡ xs ++ []
     no_lines_more [] = refl
     no_lines_more (x ∷ xs) = ap (λ ys. x ∷ ys) (no_lines_more xs)
 
-pub concludes_too_long : {C : Type 0} (x : Replay C) (put : List ℕ) (before after : Option (List ℕ)) (s result : Status) → Refuses x.answers too_long_text put s → WritesOut put s before after result → Concludes x (Err stop.TooLong) before after result
-concludes_too_long x put before after s result (inl refused) wrote M script left first e =
-    let b = too_long_of M script x first before e in
-    concluded M script (e.waiting.text ++ too_long_text) e.lines x.answers too_long_text put left first before after status.Refused result e.waiting refused.1 refl (inr b) (inr (inr b)) (subst (λ t. WritesOut put t before after result) refused.0 wrote)
-concludes_too_long x put before after s result (inr memory) wrote M script left first e =
-    let f = front_too_long M script x first before e in
-    concluded M script e.waiting.text e.lines x.answers [] put left first before after status.NoMemory result e.waiting (memory.1 ∙ nothing_more x.answers) (append_nil e.waiting.text) f (inl f) (subst (λ t. WritesOut put t before after result) memory.0 wrote)
+pub concludes_too_long : {C L : Type 0} (x : Replay C L) (put : List ℕ) (before after : Option (List ℕ)) (s result : Status) → Refuses x.answers too_long_text put s → WritesOut put s before after result → Concludes x (Err stop.TooLong) before after result
+concludes_too_long x put before after s result (inl refused) wrote M begun script left first e =
+    let b = too_long_of M begun script x first before e in
+    concluded M begun x.steps script (e.waiting.text ++ too_long_text) e.lines x.answers too_long_text put left first before after status.Refused result e.waiting refused.1 refl (inr b) (inr (inr b)) (subst (λ t. WritesOut put t before after result) refused.0 wrote)
+concludes_too_long x put before after s result (inr memory) wrote M begun script left first e =
+    let f = front_too_long M begun script x first before e in
+    concluded M begun x.steps script e.waiting.text e.lines x.answers [] put left first before after status.NoMemory result e.waiting (memory.1 ∙ nothing_more x.answers) (append_nil e.waiting.text) f (inl f) (subst (λ t. WritesOut put t before after result) memory.0 wrote)
 
 -- it is the same where what was read is known by name
-pub concludes_of : {C : Type 0} (x : Replay C) (read made : Result (Unit {0}) Stop) (before after : Option (List ℕ)) (result : Status) → read ≡ made → Concludes x made before after result → Concludes x read before after result
+pub concludes_of : {C L : Type 0} (x : Replay C L) (read made : Result (Unit {0}) Stop) (before after : Option (List ℕ)) (result : Status) → read ≡ made → Concludes x made before after result → Concludes x read before after result
 concludes_of x read made before after result is concludes = subst (λ r. Concludes x r before after result) (sym is) concludes

@@ -31,6 +31,7 @@ answered_none M =
       client = stream_fresh peer.Client;
       broker = stream_fresh peer.Broker;
       shown = refl;
+      shown_sends = refl;
       told = λ why over. cc;
       in_order = record { sent_is = refl; passed_there = omega arith; answered = All-nil (IsAnswered M) };
       own_requests = λ frames tail cut. (frames, refl);
@@ -40,8 +41,8 @@ answered_none M =
 pub appends_none : (first : Option (List ℕ)) (taken : List ℕ) → first ≡ Some taken → first ≡ Some (taken ++ [])
 appends_none first taken is = is ∙ ap Some (sym (append_nil taken))
 
-pub opened : {C : Type 0} (meaning : C → Meaning) (stands : C → State → Type 0) (M : Meaning) (x : Replay C) (first : Option (List ℕ)) → HasRead meaning stands M x [] [] → x.answers ≡ [] → HasWritten meaning stands M x first first []
-opened meaning stands M x first reading none = record { text = []; written = []; reading = reading; parts = sym none; appends = appends_none first }
+pub opened : {C L : Type 0} (meaning : C → Meaning) (stands : C → State → Type 0) (M : Meaning) (begun : ℕ) (x : Replay C L) (first : Option (List ℕ)) → HasRead meaning stands M begun x [] [] → x.answers ≡ [] → HasWritten meaning stands M begun x first first []
+opened meaning stands M begun x first reading none = record { text = []; written = []; reading = reading; parts = sym none; appends = appends_none first }
 
 -- no line of the script was answered
 pub front_of_none : (M : Meaning) (script : List ℕ) → Front M script []

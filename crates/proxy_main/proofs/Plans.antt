@@ -14,8 +14,8 @@ unfolding broken_limit is_label is_host are_nodes are_denied
 default_valid = record { within_limits = refl; has_its_ports = refl }
 
 -- memory ran out before anything was read
-pub leaves_to_come : (M : Meaning) (coming taken : Option (List ℕ)) → ReplaysInput M coming coming taken taken status.NoMemory
-leaves_to_come M coming taken =
+pub leaves_to_come : (M : Meaning) (coming taken : Option (List ℕ)) (n m : ℕ) → ReplaysInput M coming coming taken taken n m status.NoMemory
+leaves_to_come M coming taken n m =
     record {
       text = λ script is. ([], appends_none taken, front_of_none M script);
       status_is = tt;

@@ -1,5 +1,5 @@
 -- One line more of a script: what it does goes on from what the lines before it did.
-use Rattle.std.proofs.Common.{◌≡◌, ℕ, Bool, true, false, ◌||◌, List, [], ◌∷◌, ◌++◌, map, Some, None, Ok, Err, sym, ◌∙◌, ap, subst, refl, append_assoc, if◌then◌else◌}
+use Rattle.std.proofs.Common.{◌≡◌, ℕ, Bool, true, false, ◌||◌, List, [], ◌∷◌, ◌++◌, map, Some, None, Ok, Err, sym, ◌∙◌, ap, subst, refl, append_assoc, if◌then◌else◌, ◌+◌, arith}
 use Rattle.std.specs.List.{flat_map}
 use Rattle.std.proofs.lemmas.Grind.{flat_map-append}
 use Rattle.conn_rules.specs.declared.event.Event.{Event}
@@ -10,7 +10,8 @@ use Rattle.conn_rules.specs.declared.event.Reply.TheVariants as reply
 use Rattle.conn_rules.specs.declared.event.Emit.TheVariants as emit
 use Rattle.conn_rules.specs.declared.event.CompleteFault.TheVariants as complete_fault
 use Rattle.conn_rules.specs.Meaning.{Meaning, Lasting}
-use Rattle.conn_rules.specs.History.{Entry, LeadsTo, IsHistory, to_client, out, frames_taken, client_frames, AreFirst}
+use Rattle.conn_rules.specs.History.{Entry, LeadsTo, IsHistory, to_client, out, to_broker, sent, frames_taken, client_frames, AreFirst}
+use Rattle.conn_rules.specs.Work.{total_work, TakesGrowth}
 use Rattle.conn_rules.proofs.Brings.{leads_then}
 use Rattle.conn_rules.proofs.Order.{order}
 use Rattle.conn_rules.proofs.Told.{end_next}
@@ -23,17 +24,19 @@ use Rattle.session.specs.Peers.{least_size, most_size, frames_of_peer}
 use Rattle.framing.specs.Cuts.{Cuts}
 use Rattle.session.specs.Streams.{Stream, other_peer, IsStreamOf}
 use Rattle.session.specs.Pushes.{entry_of}
+use Rattle.session.specs.Counting.{wants_memory, FoundMemory}
+use Rattle.session.proofs.Counting.{found_append, piece_found, push_found, end_idle}
 use Rattle.session.proofs.Frames.{frames_append}
 use Rattle.session.proofs.Streaming.{stream_fresh, stream_piece, stream_push, stream_end, stream_elsewhere, stream_cut, other_piece, other_push, other_end, piece_peer, push_peer, end_peer}
-use Rattle.session.proofs.Showing.{out_append, push_silent, piece_silent, end_silent, push_ended, piece_ended, end_ended}
+use Rattle.session.proofs.Showing.{out_append, sent_append, push_silent, piece_silent, end_silent, push_unsent, piece_unsent, end_unsent, push_ended, piece_ended, end_ended}
 use Rattle.transcript.specs.declared.line.Line.{Line}
 use Rattle.transcript.specs.declared.line.Line.TheVariants as line
 use Rattle.transcript.specs.declared.answer.Answer.{Answer}
 use Rattle.transcript.specs.declared.answer.Answer.TheVariants as answer
 use Rattle.transcript.specs.Answers.{answer_text}
-use Rattle.proxy_main.specs.Played.{Play, opening_play, told_answer, answer_of, IsPieceLine, IsEndLine, IsEventLine, IsEmitLine, StreamsStay, IsPlayed, ArePlayed, piece_of, is_end_of, stream_in, printed, shown_to_client}
+use Rattle.proxy_main.specs.Played.{Play, opening_play, told_answer, answer_of, IsPieceLine, IsEndLine, IsEventLine, IsEmitLine, StreamsStay, IsPlayed, ArePlayed, piece_of, is_end_of, stream_in, printed, shown_to_client, shown_to_broker}
 use Rattle.proxy_main.specs.Scripts.{IsLineText, AreLineTexts}
-use Rattle.proxy_main.specs.Replayed.{Answered, AreFirstOfStream}
+use Rattle.proxy_main.specs.Replayed.{Answered, CountsRequests, AreFirstOfStream}
 use Rattle.proxy_main.proofs.Lists.{append_nil}
 
 -- ---- what an answer shows the client
@@ -59,6 +62,30 @@ reply_shows reply.Noted a h = let e : answer.Fine ≡ a = cc in subst (λ x. sho
 reply_shows (reply.Take x) a h = cc
 reply_shows (reply.Answer x) a h = cc
 reply_shows (reply.Look x) a h = cc
+
+-- ---- what an answer shows the broker
+
+told_sends : (t : Told) → shown_to_broker (told_answer t) ≡ []
+told_sends told.Fine = refl
+told_sends told.Full = refl
+told_sends told.Closed = refl
+told_sends told.NotWaiting = refl
+
+reply_sends : (r : Reply) (a : Answer) → answer_of r ≡ Some a → shown_to_broker a ≡ to_broker r
+reply_sends (reply.Send (Some frame)) a h = let e : answer.ToBroker frame ≡ a = cc in subst (λ x. shown_to_broker x ≡ frame) e refl
+reply_sends (reply.Send None) a h = let e : answer.Nothing ≡ a = cc in subst (λ x. shown_to_broker x ≡ []) e refl
+reply_sends (reply.Emit (emit.Bytes response)) a h = let e : answer.ToClient response ≡ a = cc in subst (λ x. shown_to_broker x ≡ []) e refl
+reply_sends (reply.Emit emit.Later) a h = let e : answer.Later ≡ a = cc in subst (λ x. shown_to_broker x ≡ []) e refl
+reply_sends (reply.Emit (emit.Over why)) a h = let e : answer.Over why ≡ a = cc in subst (λ x. shown_to_broker x ≡ []) e refl
+reply_sends (reply.Pick (Some ticket)) a h = let e : answer.Ticket ticket.request ticket.index ticket.key ≡ a = cc in subst (λ x. shown_to_broker x ≡ []) e refl
+reply_sends (reply.Pick None) a h = let e : answer.Nothing ≡ a = cc in subst (λ x. shown_to_broker x ≡ []) e refl
+reply_sends (reply.Complete (Ok u)) a h = let e : answer.Fine ≡ a = cc in subst (λ x. shown_to_broker x ≡ []) e refl
+reply_sends (reply.Complete (Err (complete_fault.NotWaiting verdict))) a h = let e : answer.NotWaiting ≡ a = cc in subst (λ x. shown_to_broker x ≡ []) e refl
+reply_sends (reply.Complete (Err complete_fault.NoMemory)) a h = cc
+reply_sends reply.Noted a h = let e : answer.Fine ≡ a = cc in subst (λ x. shown_to_broker x ≡ []) e refl
+reply_sends (reply.Take x) a h = cc
+reply_sends (reply.Answer x) a h = cc
+reply_sends (reply.Look x) a h = cc
 
 -- what a line does, as one stream of the two sees it
 record SeenBy (p : Peer) (l : Line) (s : Stream) (hs : List Entry) (t : Stream) : Type 0 where
@@ -177,9 +204,13 @@ record Seen (l : Line) (p : Play) (a : Answer) (hs : List Entry) (q : Play) : Ty
   client : SeenBy peer.Client l p.client hs q.client
   broker : SeenBy peer.Broker l p.broker hs q.broker
   shown : shown_to_client a ≡ out hs
+  sends : shown_to_broker a ≡ sent hs
 
 event_shows : (e : Event) (a : Answer) (hs : List Entry) → IsEventLine e a hs → shown_to_client a ≡ out hs
 event_shows e a hs h = reply_shows h.reply a h.answered ∙ sym (append_nil (to_client h.reply)) ∙ sym (ap out h.entry)
+
+event_sends : (e : Event) (a : Answer) (hs : List Entry) → IsEventLine e a hs → shown_to_broker a ≡ sent hs
+event_sends e a hs h = reply_sends h.reply a h.answered ∙ sym (append_nil (to_broker h.reply)) ∙ sym (ap sent h.entry)
 
 seen_event : (l : Line) (e : Event) (p : Play) (a : Answer) (hs : List Entry) (q : Play) → IsNoFrame e → ((x : Peer) → piece_of l x ≡ []) → ((x : Peer) → is_end_of l x ≡ false) → IsEventLine e a hs × StreamsStay p q → Seen l p a hs q
 seen_event l e p a hs q is none stays h =
@@ -187,6 +218,7 @@ seen_event l e p a hs q is none stays h =
       client = elsewhere peer.Client l p.client q.client hs (none peer.Client) (stays peer.Client) h.1.0 (event_frames p.client.peer e a hs is h.0);
       broker = elsewhere peer.Broker l p.broker q.broker hs (none peer.Broker) (stays peer.Broker) h.1.1 (event_frames p.broker.peer e a hs is h.0);
       shown = event_shows e a hs h.0;
+      sends = event_sends e a hs h.0;
     }
 
 seen : (l : Line) (p : Play) (a : Answer) (hs : List Entry) (q : Play) → IsBothPeers p → IsPlayed p l a hs q → Seen l p a hs q
@@ -195,24 +227,28 @@ seen (line.Client piece) p a hs q both h =
       client = its_piece peer.Client (line.Client piece) p.client q.client a hs refl h.0;
       broker = elsewhere peer.Broker (line.Client piece) p.broker q.broker hs refl refl h.1 (subst (λ x. frames_of_peer x hs ≡ []) (other_is_broker p both) (other_piece p.client q.client piece hs (Ok h.0.told) h.0.is_piece));
       shown = ap shown_to_client h.0.answered ∙ told_shows h.0.told ∙ sym (piece_silent p.client q.client piece hs h.0.told h.0.is_piece);
+      sends = ap shown_to_broker h.0.answered ∙ told_sends h.0.told ∙ sym (piece_unsent p.client q.client piece hs h.0.told h.0.is_piece);
     }
 seen (line.Broker piece) p a hs q both h =
     record {
       client = elsewhere peer.Client (line.Broker piece) p.client q.client hs refl refl h.1 (subst (λ x. frames_of_peer x hs ≡ []) (other_is_client p both) (other_piece p.broker q.broker piece hs (Ok h.0.told) h.0.is_piece));
       broker = its_piece peer.Broker (line.Broker piece) p.broker q.broker a hs refl h.0;
       shown = ap shown_to_client h.0.answered ∙ told_shows h.0.told ∙ sym (piece_silent p.broker q.broker piece hs h.0.told h.0.is_piece);
+      sends = ap shown_to_broker h.0.answered ∙ told_sends h.0.told ∙ sym (piece_unsent p.broker q.broker piece hs h.0.told h.0.is_piece);
     }
 seen line.ClientEnd p a hs q both h =
     record {
       client = its_end peer.Client line.ClientEnd p.client q.client a hs refl refl h.0;
       broker = elsewhere peer.Broker line.ClientEnd p.broker q.broker hs refl refl h.1 (subst (λ x. frames_of_peer x hs ≡ []) (other_is_broker p both) (other_end p.client q.client hs (Ok h.0.told) h.0.is_end));
       shown = ap shown_to_client h.0.answered ∙ told_shows h.0.told ∙ sym (end_silent p.client q.client hs (Ok h.0.told) h.0.is_end);
+      sends = ap shown_to_broker h.0.answered ∙ told_sends h.0.told ∙ sym (end_unsent p.client q.client hs (Ok h.0.told) h.0.is_end);
     }
 seen line.BrokerEnd p a hs q both h =
     record {
       client = elsewhere peer.Client line.BrokerEnd p.client q.client hs refl refl h.1 (subst (λ x. frames_of_peer x hs ≡ []) (other_is_client p both) (other_end p.broker q.broker hs (Ok h.0.told) h.0.is_end));
       broker = its_end peer.Broker line.BrokerEnd p.broker q.broker a hs refl refl h.0;
       shown = ap shown_to_client h.0.answered ∙ told_shows h.0.told ∙ sym (end_silent p.broker q.broker hs (Ok h.0.told) h.0.is_end);
+      sends = ap shown_to_broker h.0.answered ∙ told_sends h.0.told ∙ sym (end_unsent p.broker q.broker hs (Ok h.0.told) h.0.is_end);
     }
 seen line.Send p a hs q both h = seen_event line.Send event.Send p a hs q tt (λ x. refl) (λ x. refl) h
 seen line.Emit p a hs q both h =
@@ -220,6 +256,7 @@ seen line.Emit p a hs q both h =
       client = its_push p.client q.client a hs h.0;
       broker = elsewhere peer.Broker line.Emit p.broker q.broker hs refl refl h.1 (subst (λ x. frames_of_peer x hs ≡ []) (other_is_broker p both) (emit_frames p.client q.client a hs h.0));
       shown = event_shows event.Emit a h.0.first h.0.emits ∙ sym (append_nil (out h.0.first)) ∙ ap (λ xs. out h.0.first ++ xs) (sym (push_silent p.client q.client h.0.rest (Ok h.0.told) h.0.pushes)) ∙ sym (out_append h.0.first h.0.rest) ∙ sym (ap out h.0.entries);
+      sends = event_sends event.Emit a h.0.first h.0.emits ∙ sym (append_nil (sent h.0.first)) ∙ ap (λ xs. sent h.0.first ++ xs) (sym (push_unsent p.client q.client h.0.rest (Ok h.0.told) h.0.pushes)) ∙ sym (sent_append h.0.first h.0.rest) ∙ sym (ap sent h.0.entries);
     }
 seen line.Pick p a hs q both h = seen_event line.Pick event.Pick p a hs q tt (λ x. refl) (λ x. refl) h
 seen (line.Done k i verdict) p a hs q both h = seen_event (line.Done k i verdict) (event.Complete k i verdict) p a hs q tt (λ x. refl) (λ x. refl) h
@@ -258,6 +295,38 @@ bytes_more false true false bytes piece more e none = cc
 bytes_more false false true bytes piece more e none = cc
 bytes_more false false false bytes piece more e none = append_assoc bytes piece more
 
+-- ---- a line is answered only where the connection found memory
+
+answer_found : (r : Reply) (a : Answer) → answer_of r ≡ Some a → wants_memory r ≡ false
+answer_found (reply.Send x) a h = refl
+answer_found (reply.Emit x) a h = refl
+answer_found (reply.Pick x) a h = refl
+answer_found (reply.Complete (Ok u)) a h = refl
+answer_found (reply.Complete (Err (complete_fault.NotWaiting verdict))) a h = refl
+answer_found (reply.Complete (Err complete_fault.NoMemory)) a h = cc
+answer_found reply.Noted a h = refl
+answer_found (reply.Take x) a h = cc
+answer_found (reply.Answer x) a h = cc
+answer_found (reply.Look x) a h = cc
+
+event_found : (e : Event) (a : Answer) (hs : List Entry) → IsEventLine e a hs → FoundMemory hs
+event_found e a hs h = subst FoundMemory (sym h.entry) (ap (λ b. b || false) (answer_found h.reply a h.answered))
+
+pub line_found : (p : Play) (l : Line) (a : Answer) (hs : List Entry) (q : Play) → IsPlayed p l a hs q → FoundMemory hs
+line_found p (line.Client piece) a hs q h = piece_found p.client q.client piece hs h.0.told h.0.is_piece
+line_found p (line.Broker piece) a hs q h = piece_found p.broker q.broker piece hs h.0.told h.0.is_piece
+line_found p line.ClientEnd a hs q h = (end_idle p.client q.client hs (Ok h.0.told) h.0.is_end).1
+line_found p line.BrokerEnd a hs q h = (end_idle p.broker q.broker hs (Ok h.0.told) h.0.is_end).1
+line_found p line.Send a hs q h = event_found event.Send a hs h.0
+line_found p line.Emit a hs q h = subst FoundMemory (sym h.0.entries) (found_append h.0.first h.0.rest (event_found event.Emit a h.0.first h.0.emits) (push_found p.client q.client h.0.rest h.0.told h.0.pushes))
+line_found p line.Pick a hs q h = event_found event.Pick a hs h.0
+line_found p (line.Done k i verdict) a hs q h = event_found (event.Complete k i verdict) a hs h.0
+line_found p line.FaultClientRead a hs q h = event_found (event.Fault fault.ClientRead) a hs h.0
+line_found p line.FaultClientWrite a hs q h = event_found (event.Fault fault.ClientWrite) a hs h.0
+line_found p line.FaultBrokerRead a hs q h = event_found (event.Fault fault.BrokerRead) a hs h.0
+line_found p line.FaultBrokerWrite a hs q h = event_found (event.Fault fault.BrokerWrite) a hs h.0
+line_found p (line.FaultAuthority k) a hs q h = event_found (event.Fault (fault.Authority k)) a hs h.0
+
 -- what the lines do, all in all
 pub record AllSeen (M : Meaning) (p : Play) (ls : List Line) (answers : List Answer) (hs : List Entry) (q : Play) : Type 0 where
   pub client : (bytes : List ℕ) (before : List Entry) → IsStreamOf bytes before p.client → IsStreamOf (if p.client.ended then bytes else (bytes ++ stream_in peer.Client ls)) (before ++ hs) q.client
@@ -265,6 +334,7 @@ pub record AllSeen (M : Meaning) (p : Play) (ls : List Line) (answers : List Ans
   pub both : IsBothPeers q
   pub leads : LeadsTo M p.state hs q.state
   pub shown : flat_map shown_to_client answers ≡ out hs
+  pub sends : flat_map shown_to_broker answers ≡ sent hs
 
 -- one stream: the first line, and then the others
 stream_more : (p : Peer) (l : Line) (ls : List Line) (s m t : Stream) (first rest : List Entry) → SeenBy p l s first m → ((bytes : List ℕ) (before : List Entry) → IsStreamOf bytes before m → IsStreamOf (if m.ended then bytes else (bytes ++ stream_in p ls)) (before ++ rest) t)
@@ -282,6 +352,7 @@ all_seen M p [] [] hs q both h =
       both = both;
       leads = refl;
       shown = refl;
+      sends = refl;
     } in
     subst (λ ks. AllSeen M p [] [] ks q) (sym h.0) (subst (λ x. AllSeen M p [] [] [] x) (sym h.1) here)
 all_seen M p [] (a ∷ answers) hs q both h = absurd h
@@ -299,6 +370,7 @@ all_seen M p (l ∷ ls) (a ∷ answers) hs q both h =
       both = more.both;
       leads = leads_then M p.state between.state q.state first rest h.4 more.leads;
       shown = ap (λ xs. xs ++ flat_map shown_to_client answers) s.shown ∙ ap (λ xs. out first ++ xs) more.shown ∙ sym (out_append first rest);
+      sends = ap (λ xs. xs ++ flat_map shown_to_broker answers) s.sends ∙ ap (λ xs. sent first ++ xs) more.sends ∙ sym (sent_append first rest);
     })
 
 -- ---- one line more
@@ -355,9 +427,17 @@ answered_more M lines text t l a hs q before lasting text_of is leads =
         client = client;
         broker = all.broker [] [] (stream_fresh peer.Broker);
         shown = all.shown;
+        shown_sends = all.sends;
         in_order = order M (before.history ++ hs) q.state lasting all.leads;
         told = λ why over. end_next M (before.history ++ hs) q.state why all.leads over;
         own_requests = own_requests M (before.history ++ hs) q (stream_in peer.Client (before.script ++ l ∷ [])) all.both.client all.leads client;
       };
       last_is = refl;
     }
+
+-- the steps of one line more
+pub counted_more : (M : Meaning) (begun n m : ℕ) {lines more : List (List ℕ)} {text longer : List ℕ} (before : Answered M lines text) (after : Answered M more longer) (q : Play)
+    → CountsRequests M begun n before → TakesGrowth M n m before.last.state q.state → after.last ≡ q → CountsRequests M begun m after
+counted_more M begun n m before after q counted grows is =
+    let there : total_work M after.last.state ≡ total_work M q.state = ap (λ (p : Play). total_work M p.state) is in
+    omega (arith, counted, grows, there)

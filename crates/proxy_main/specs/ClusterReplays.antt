@@ -1,7 +1,7 @@
 -- What `replay` makes of a cluster of a configuration file: its words, and what is written.
 use Rattle.std.specs.Prelude.{◌≡◌, ℕ, false, List, [], ◌∷◌, codes, Option, ◌⊎◌}
 use Rattle.kp_edge.specs.Files.{Content}
-use Rattle.config_answers.specs.ClusterAnswers.{cluster_answer}
+use Rattle.config_answers.specs.ClusterAnswers.{cluster_answer, IsServed}
 use Rattle.config_answers.specs.declared.cluster.ClusterAnswer.{ClusterAnswer}
 use Rattle.config_answers.specs.declared.cluster.ClusterAnswer.TheVariants.{Found, Refused}
 use Rattle.proxy_main.specs.DefaultPlan.{cluster_meaning}
@@ -32,23 +32,25 @@ pub record IsFoundIn (content : Content) (cluster : List ℕ) (found : ClusterAn
   pub found_is : found ≡ cluster_answer cluster whole
 
 -- The script on the input was replayed over the cluster's chain. Where there is no such cluster, the line that says why
--- was written, and no input was read.
-abbrev pub ReplaysFound : ClusterAnswer → (coming left before after : Option (List ℕ)) → Status → Type 0
-ReplaysFound (Found plan) coming left before after s = ReplaysInput (cluster_meaning plan) coming left before after s
-ReplaysFound (Refused line) coming left before after s = (left ≡ coming) × WritesOut line status.Refused before after s
+-- was written, no input was read, and no step was counted.
+abbrev pub ReplaysFound : ClusterAnswer → (coming left before after : Option (List ℕ)) (begun now : ℕ) → Status → Type 0
+ReplaysFound (Found plan) coming left before after begun now s = ReplaysInput (cluster_meaning plan) coming left before after begun now s
+ReplaysFound (Refused line) coming left before after begun now s = (left ≡ coming) × (now ≡ begun) × WritesOut line status.Refused before after s
 
--- as the file says
-pub record ReplaysFile (content : Content) (cluster : List ℕ) (coming left before after : Option (List ℕ)) (s : Status) : Type 0 where
+-- as the file says, whose plan of that cluster is valid and has no prefix
+pub record ReplaysFile (content : Content) (cluster : List ℕ) (coming left before after : Option (List ℕ)) (begun now : ℕ) (s : Status) : Type 0 where
   pub found : ClusterAnswer
   pub is_found : IsFoundIn content cluster found
-  pub replays : ReplaysFound found coming left before after s
+  pub served : IsServed found
+  pub replays : ReplaysFound found coming left before after begun now s
 
--- The file wasn't read whole, or memory ran out. Nothing was written, and no input was read.
-pub record LeavesAll (coming left before after : Option (List ℕ)) (s : Status) : Type 0 where
+-- The file wasn't read whole, or memory ran out. Nothing was written or counted, and no input was read.
+pub record LeavesAll (coming left before after : Option (List ℕ)) (begun now : ℕ) (s : Status) : Type 0 where
   pub status_is : (s ≡ status.FilesFault) ⊎ (s ≡ status.NoMemory)
   pub unread : left ≡ coming
   pub unwritten : after ≡ before
+  pub uncounted : now ≡ begun
 
-abbrev pub ReplaysCluster : Content → List ℕ → (coming left before after : Option (List ℕ)) → Status → Type 0
-ReplaysCluster content cluster coming left before after s =
-    ReplaysFile content cluster coming left before after s ⊎ LeavesAll coming left before after s
+abbrev pub ReplaysCluster : Content → List ℕ → (coming left before after : Option (List ℕ)) (begun now : ℕ) → Status → Type 0
+ReplaysCluster content cluster coming left before after begun now s =
+    ReplaysFile content cluster coming left before after begun now s ⊎ LeavesAll coming left before after begun now s

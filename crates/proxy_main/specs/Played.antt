@@ -137,3 +137,8 @@ printed answers = flat_map (λ a. answer_text a ++ 10 ∷ []) answers
 abbrev pub shown_to_client : Answer → List ℕ
 shown_to_client (answer.ToClient response) = response
 shown_to_client _ = []
+
+-- the bytes that an answer shows the broker
+abbrev pub shown_to_broker : Answer → List ℕ
+shown_to_broker (answer.ToBroker frame) = frame
+shown_to_broker _ = []

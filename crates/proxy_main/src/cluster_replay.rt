@@ -8,7 +8,7 @@ use crate::file_answer::{begins_with_a_dash, write_with};
 use crate::plan_replay::replay_plan;
 use crate::status::Status;
 use config_answers::{CONFIG_LIMIT, ClusterAnswer, cluster_answer, front_law};
-use kp_edge::{FileFault, Files, Sink, Source};
+use kp_edge::{FileFault, Files, Sink, Source, Steps};
 use std::alloc::Global;
 
 // The names of a configuration file and of a cluster in it.
@@ -35,20 +35,21 @@ pub(crate) fn cluster_replay(words: &[String]) -> Option<ClusterReplay<'_>>
 }
 
 // Reads the file once, and then the script on the input over a connection of the cluster, or writes why not.
-pub(crate) fn replay_cluster<I: Source, O: Sink, F: Files>(
+pub(crate) fn replay_cluster<I: Source, O: Sink, F: Files, L>(
     alloc: Global,
     names: &ClusterReplay<'_>,
     input: &mut I,
     out: &mut O,
     files: &mut F,
+    steps: &mut Steps<L>,
 ) -> Status
-    ensures replay { ReplaysCluster (F.content files.old names.now.file.now) names.now.cluster.now (I.coming input.old) (I.coming input.new) (O.taken out.old) (O.taken out.new) result }
+    ensures replay { ReplaysCluster (F.content files.old names.now.file.now) names.now.cluster.now (I.coming input.old) (I.coming input.new) (O.taken out.old) (O.taken out.new) steps.old steps.new result }
     ensures faults { BothCounted (result ≡ Status.InputFault) (result ≡ Status.OutputFault) (I.faults input.old) (I.faults input.new) (O.faults out.old) (O.faults out.new) }
     ensures files { Counted (result ≡ Status.FilesFault) (F.faults files.old) (F.faults files.new) }
     ensures content { (name : List ℕ) → F.content files.new name ≡ F.content files.old name }
 {
     match cluster_in(alloc, names.file, names.cluster, files) {
-        Ok(found) => replay_found(alloc, found, input, out),
+        Ok(found) => replay_found(alloc, found, input, out, steps),
         Err(FileFault::Failed) => Status::FilesFault,
         Err(FileFault::NoMemory) => Status::NoMemory,
     }
@@ -71,19 +72,20 @@ fn cluster_in<F: Files>(
     Ok(cluster_answer(alloc, cluster, bytes.as_slice())?)
 }
 
-fn replay_found<I: Source, O: Sink>(
+fn replay_found<I: Source, O: Sink, L>(
     alloc: Global,
     found: ClusterAnswer,
     input: &mut I,
     out: &mut O,
+    steps: &mut Steps<L>,
 ) -> Status
     requires { IsServed found }
-    ensures replay { ReplaysFound found (I.coming input.old) (I.coming input.new) (O.taken out.old) (O.taken out.new) result }
+    ensures replay { ReplaysFound found (I.coming input.old) (I.coming input.new) (O.taken out.old) (O.taken out.new) steps.old steps.new result }
     ensures faults { BothCounted (result ≡ Status.InputFault) (result ≡ Status.OutputFault) (I.faults input.old) (I.faults input.new) (O.faults out.old) (O.faults out.new) }
     ensures not_files { result ≡ Status.FilesFault → ⊥ }
 {
     match found {
-        ClusterAnswer::Found(plan) => replay_plan(alloc, &plan, input, out),
+        ClusterAnswer::Found(plan) => replay_plan(alloc, &plan, input, out, steps),
         ClusterAnswer::Refused(line) => write_with(Status::Refused, line.as_slice(), out),
     }
 }

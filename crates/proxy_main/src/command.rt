@@ -1,5 +1,5 @@
 // The commands.
-ghost use Rattle.std.specs.Prelude.{◌≡◌, ◌≤◌, ◌↔◌, ℕ, List, map, string_bytes, IsTrue};
+ghost use Rattle.std.specs.Prelude.{◌≡◌, ◌↔◌, ℕ, List, map, string_bytes, IsTrue};
 ghost use Rattle.kp_edge.specs.Counts.{BothCounted, Counted};
 ghost use Rattle.config_answers.specs.declared.asked.Asked.{Asked};
 ghost use Rattle.proxy_main.specs.Words.{IsReplay, usage};
@@ -31,11 +31,12 @@ pub fn run_command<I: Source, O: Sink, F: Files, L>(
     input: &mut I,
     out: &mut O,
     files: &mut F,
-    _steps: &mut Steps<L>,
+    steps: &mut Steps<L>,
 ) -> Status
-    // The script is replayed over the default plan, or over the plan of the file's cluster.
-    ensures replay { IsReplay (map string_bytes words.now) → ReplaysInput default_meaning (I.coming input.old) (I.coming input.new) (O.taken out.old) (O.taken out.new) result }
-    ensures cluster { (file cluster : List ℕ) → IsClusterReplay (map string_bytes words.now) file cluster → ReplaysCluster (F.content files.old file) cluster (I.coming input.old) (I.coming input.new) (O.taken out.old) (O.taken out.new) result }
+    // The script is replayed over the default plan, or over the plan of the file's cluster. The steps that are counted are the
+    // work of its requests.
+    ensures replay { IsReplay (map string_bytes words.now) → ReplaysInput default_meaning (I.coming input.old) (I.coming input.new) (O.taken out.old) (O.taken out.new) steps.old steps.new result }
+    ensures cluster { (file cluster : List ℕ) → IsClusterReplay (map string_bytes words.now) file cluster → ReplaysCluster (F.content files.old file) cluster (I.coming input.old) (I.coming input.new) (O.taken out.old) (O.taken out.new) steps.old steps.new result }
 
     // `check` and `plan` answer the whole file, as far as the files tell what it holds.
     ensures file { (asked : Asked) (name : List ℕ) → IsFileCommand (map string_bytes words.now) asked name → AnswersFile asked (F.content files.old name) (O.taken out.old) (O.taken out.new) result }
@@ -50,14 +51,14 @@ pub fn run_command<I: Source, O: Sink, F: Files, L>(
     ensures faults { BothCounted (result ≡ Status.InputFault) (result ≡ Status.OutputFault) (I.faults input.old) (I.faults input.new) (O.faults out.old) (O.faults out.new) }
     ensures files { Counted (result ≡ Status.FilesFault) (F.faults files.old) (F.faults files.new) }
 
-    // What the files tell stays, and the counter of steps never falls.
+    // What the files tell stays. No step is counted but those of a replay's requests.
     ensures content { (name : List ℕ) → F.content files.new name ≡ F.content files.old name }
-    ensures steps { _steps.old ≤ _steps.new }
+    ensures uncounted { ¬ IsReplay (map string_bytes words.now) → IsNoClusterReplay (map string_bytes words.now) → steps.new ≡ steps.old }
 {
     if is_replay(words) {
-        replay_default(alloc, input, out)
+        replay_default(alloc, input, out, steps)
     } else if let Some(names) = cluster_replay(words) {
-        replay_cluster(alloc, &names, input, out, files)
+        replay_cluster(alloc, &names, input, out, files, steps)
     } else if let Some(command) = file_command(words) {
         answer_file(alloc, &command, out, files)
     } else {

@@ -6,21 +6,22 @@ ghost use Rattle.proxy_main.specs.Replayed.{ReplaysInput};
 
 use crate::plan_replay::replay_plan;
 use crate::status::Status;
-use kp_edge::{Blob, NoMemory, Sink, Source};
+use kp_edge::{Blob, NoMemory, Sink, Source, Steps};
 use std::alloc::Global;
 use virtual_cluster::{Address, ClusterPlan, Sequence};
 
 // Runs the script on the input over a connection of the default plan.
-pub(crate) fn replay_default<I: Source, O: Sink>(
+pub(crate) fn replay_default<I: Source, O: Sink, L>(
     alloc: Global,
     input: &mut I,
     out: &mut O,
+    steps: &mut Steps<L>,
 ) -> Status
-    ensures replay { ReplaysInput default_meaning (I.coming input.old) (I.coming input.new) (O.taken out.old) (O.taken out.new) result }
+    ensures replay { ReplaysInput default_meaning (I.coming input.old) (I.coming input.new) (O.taken out.old) (O.taken out.new) steps.old steps.new result }
     ensures faults { BothCounted (result ≡ Status.InputFault) (result ≡ Status.OutputFault) (I.faults input.old) (I.faults input.new) (O.faults out.old) (O.faults out.new) }
 {
     match default_plan(alloc) {
-        Ok(plan) => replay_plan(alloc, &plan, input, out),
+        Ok(plan) => replay_plan(alloc, &plan, input, out, steps),
         Err(NoMemory) => Status::NoMemory,
     }
 }

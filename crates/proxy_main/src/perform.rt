@@ -1,9 +1,9 @@
 // What a line asks of a station.
-ghost use Rattle.std.specs.Prelude.{◌≡◌, List, Some, IfOk};
+ghost use Rattle.std.specs.Prelude.{◌≡◌, ℕ, List, Some, IfOk};
 ghost use Rattle.conn_rules.specs.declared.event.Event.TheVariants as event;
 ghost use Rattle.conn_rules.specs.State.{State};
 ghost use Rattle.conn_rules.specs.History.{Entry};
-ghost use Rattle.conn_rules.specs.Connections.{Brings};
+ghost use Rattle.session.specs.Counting.{BringsCounted};
 ghost use Rattle.proxy_main.specs.Played.{IsPlayed, IsPieceLine, IsEndLine, IsEventLine, IsEmitLine, at_state, told_answer};
 
 use conn_rules::{Connection, Emit, Fault};
@@ -11,13 +11,13 @@ use kp_edge::{NoMemory, Steps};
 use session::{Station, Told};
 use transcript::{Answer, Line};
 
-// Plays a line on the station, and gives the line's answer.
+// Plays a line on the station, and gives the line's answer. It counts what the station's calls count.
 pub(crate) fn perform<C: Connection, L>(
     station: &mut Station<C>,
     line: Line,
     steps: &mut Steps<L>,
 ) -> Result<Answer, NoMemory>
-    ensures { IfOk result (λ answer. (hs : List Entry) × Brings C.meaning C.stands station.old.connection hs station.new.connection
+    ensures { IfOk result (λ answer. (hs : List Entry) × BringsCounted C.meaning C.stands station.old.connection hs station.new.connection steps.old steps.new
         × ((s t : State) → IsPlayed (at_state station.old s) line answer hs (at_state station.new t))) }
 {
     match line {
@@ -57,7 +57,7 @@ fn answer_to(told: Told) -> Answer
 }
 
 fn send<C: Connection>(station: &mut Station<C>) -> Answer
-    ensures send { (hs : List Entry) × Brings C.meaning C.stands station.old.connection hs station.new.connection × IsEventLine event.Send result hs }
+    ensures send { (hs : List Entry) × ((n : ℕ) → BringsCounted C.meaning C.stands station.old.connection hs station.new.connection n n) × IsEventLine event.Send result hs }
     ensures client { station.new.client ≡ station.old.client }
     ensures broker { station.new.broker ≡ station.old.broker }
 {
@@ -68,7 +68,7 @@ fn send<C: Connection>(station: &mut Station<C>) -> Answer
 }
 
 fn emit<C: Connection>(station: &mut Station<C>) -> Answer
-    ensures emit { (hs : List Entry) × Brings C.meaning C.stands station.old.connection hs station.new.connection × IsEventLine event.Emit result hs }
+    ensures emit { (hs : List Entry) × ((n : ℕ) → BringsCounted C.meaning C.stands station.old.connection hs station.new.connection n n) × IsEventLine event.Emit result hs }
     ensures client { station.new.client ≡ station.old.client }
     ensures broker { station.new.broker ≡ station.old.broker }
 {
@@ -80,7 +80,7 @@ fn emit<C: Connection>(station: &mut Station<C>) -> Answer
 }
 
 fn pick<C: Connection>(station: &mut Station<C>) -> Answer
-    ensures pick { (hs : List Entry) × Brings C.meaning C.stands station.old.connection hs station.new.connection × IsEventLine event.Pick result hs }
+    ensures pick { (hs : List Entry) × ((n : ℕ) → BringsCounted C.meaning C.stands station.old.connection hs station.new.connection n n) × IsEventLine event.Pick result hs }
     ensures client { station.new.client ≡ station.old.client }
     ensures broker { station.new.broker ≡ station.old.broker }
 {
@@ -95,7 +95,7 @@ fn pick<C: Connection>(station: &mut Station<C>) -> Answer
 }
 
 fn fault<C: Connection>(station: &mut Station<C>, fault: Fault) -> Answer
-    ensures fault { (hs : List Entry) × Brings C.meaning C.stands station.old.connection hs station.new.connection × IsEventLine (event.Fault fault) result hs }
+    ensures fault { (hs : List Entry) × ((n : ℕ) → BringsCounted C.meaning C.stands station.old.connection hs station.new.connection n n) × IsEventLine (event.Fault fault) result hs }
     ensures client { station.new.client ≡ station.old.client }
     ensures broker { station.new.broker ≡ station.old.broker }
 {

@@ -14,9 +14,11 @@ use wire_types::Writer;
 
 // A script on its way: a connection, and the bytes of a line that hasn't ended.
 #[derive(Drop)]
-pub(crate) struct Replay<C> {
+pub(crate) struct Replay<C, L> {
     pub(crate) alloc: Global,
     pub(crate) station: Station<C>,
+    // The steps of its requests, on top of those that were counted before.
+    pub(crate) steps: Steps<L>,
     // The answers that wait to be written.
     pub(crate) answers: Writer,
     // What came of a line that hasn't ended: as much as a line may have, and one byte more.
@@ -25,19 +27,20 @@ pub(crate) struct Replay<C> {
     pub(crate) lines: u64,
 }
 
-impl<C: Connection> Replay<C> {
+impl<C: Connection, L> Replay<C, L> {
     ghost use Rattle.conn_rules.specs.Meaning.{Meaning, Lasting};
     ghost use Rattle.conn_rules.specs.State.{opening};
     ghost use Rattle.proxy_main.specs.Scripts.{IsBad};
     ghost use Rattle.proxy_main.specs.Progress.{HasRead, AnswersLine, Advances, Stumbles, EndsLine, EndsBadly, Finishes, FinishesBadly};
 
-    pub(crate) fn new(alloc: Global, connection: C) -> Replay<C>
-        ensures start { (M : Meaning) → Lasting M → C.meaning connection ≡ M → C.stands connection opening → HasRead C.meaning C.stands M result [] [] }
+    pub(crate) fn new(alloc: Global, connection: C, steps: Steps<L>) -> Replay<C, L>
+        ensures start { (M : Meaning) → Lasting M → C.meaning connection ≡ M → C.stands connection opening → HasRead C.meaning C.stands M steps result [] [] }
         ensures pending { result.answers ≡ [] }
     {
         Replay {
             alloc,
             station: Station::new(alloc, connection),
+            steps,
             answers: Writer::new(alloc),
             partial: Vec::new(alloc),
             lines: 0,
@@ -104,8 +107,7 @@ impl<C: Connection> Replay<C> {
         let Some(lines) = self.lines.checked_add(1) else {
             return Err(LineStop::NoMemory);
         };
-        let mut steps = Steps::<()>::new();
-        let answer = perform(&mut self.station, line, &mut steps)?;
+        let answer = perform(&mut self.station, line, &mut self.steps)?;
         put_answer(&mut self.answers, &answer)?;
         self.lines = lines;
         Ok(())

@@ -14,7 +14,7 @@ const SCRIPT_LIMIT: u64 = 1_073_741_824;
 // From how many bytes on the answers that wait are written before more lines are answered.
 const MANY: usize = 65_536;
 
-impl<C: Connection> Replay<C> {
+impl<C: Connection, L> Replay<C, L> {
     ghost use Rattle.proxy_main.specs.Written.{Flushes, WaitsOrWritten, TakesAll, TakeStops, Turns, ReadsOnce, ReadsAll};
     ghost use Rattle.proxy_main.specs.Scripts.{ReadSoFar};
     ghost use Rattle.proxy_main.specs.Output.{AppendsFront};
@@ -116,6 +116,7 @@ impl<C: Connection> Replay<C> {
 
     // Writes the answers that wait.
     pub(crate) fn flush<O: Sink>(&mut self, out: &mut O) -> Result<(), Failed>
+        ensures steps { self.new.steps ≡ self.old.steps }
         ensures ok { OnOk result (Flushes self.old (O.taken out.old) self.new (O.taken out.new)) }
         ensures err { OnErr result (AppendsFront (O.taken out.old) self.old.answers (O.taken out.new)) }
         ensures cause { HasCause (O.faults out.old) (O.faults out.new) result }

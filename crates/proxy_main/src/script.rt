@@ -10,21 +10,23 @@ ghost use Rattle.proxy_main.specs.Replayed.{Replays, IsStatusOfReplay};
 use crate::replay::Replay;
 use crate::status::Status;
 use conn_rules::Connection;
-use kp_edge::{Sink, Source};
+use kp_edge::{Sink, Source, Steps};
 use std::alloc::Global;
+use std::mem;
 
 // How many bytes of a script are read at a time, at most.
 const PIECE: usize = 65_536;
 
-// Runs the script on the input over this connection, to which nothing came yet.
-pub(crate) fn replay<C: Connection, I: Source, O: Sink>(
+// Runs the script on the input over this connection, to which nothing came yet. Its steps are counted in `steps`.
+pub(crate) fn replay<C: Connection, I: Source, O: Sink, L>(
     alloc: Global,
     connection: C,
     input: &mut I,
     out: &mut O,
+    steps: &mut Steps<L>,
 ) -> Status
     ensures text { (M : Meaning) → Lasting M → C.meaning connection ≡ M → C.stands connection opening → (script : List ℕ) → I.coming input.old ≡ Some script
-        → (written : List ℕ) × Appends (O.taken out.old) written (O.taken out.new) × Replays M script (I.coming input.new) written result }
+        → (written : List ℕ) × Appends (O.taken out.old) written (O.taken out.new) × Replays M script (I.coming input.new) written steps.old steps.new result }
     ensures statuses { IsStatusOfReplay result }
     ensures so_far { (script : List ℕ) → I.coming input.old ≡ Some script → ReadSoFar piece_limit script (I.coming input.new) }
     ensures read { (M : Meaning) → Lasting M → C.meaning connection ≡ M → C.stands connection opening → result ≡ Status.Done → (script : List ℕ) → I.coming input.old ≡ Some script → I.coming input.new ≡ Some [] }
@@ -34,7 +36,10 @@ pub(crate) fn replay<C: Connection, I: Source, O: Sink>(
         Ok(buffer) => buffer,
         Err(_) => return Status::NoMemory,
     };
-    let mut replay = Replay::new(alloc, connection);
+    let counted = mem::replace(steps, Steps::new());
+    let mut replay = Replay::new(alloc, connection, counted);
     let read = replay.read_all(buffer.as_mut_slice(), input, out);
-    replay.conclude(read, out)
+    let status = replay.conclude(read, out);
+    mem::swap(steps, &mut replay.steps);
+    status
 }

@@ -65,7 +65,7 @@ found_both hs ks found =
     let e : (list_any wants hs || list_any wants ks) ≡ false = sym (list_any-append wants hs ks) ∙ found in
     (or_left (list_any wants hs) (list_any wants ks) e, or_right (list_any wants hs) (list_any wants ks) e)
 
-found_append : (hs ks : List Entry) → FoundMemory hs → FoundMemory ks → FoundMemory (hs ++ ks)
+pub found_append : (hs ks : List Entry) → FoundMemory hs → FoundMemory ks → FoundMemory (hs ++ ks)
 found_append hs ks first rest =
     let wants : Entry → Bool = λ h. wants_memory h.reply in
     list_any-append wants hs ks ∙ ap (λ b. b || list_any wants ks) first ∙ rest

@@ -13,8 +13,8 @@ replay_plan-requires-clause-unprefixed g c = ap (λ plan. plan.prefix) c.in-Ok.e
 
 pub returns-in-Ok-clause-replay : goal.returns-in-Ok-clause-replay
 returns-in-Ok-clause-replay g c =
-    subst (λ plan. ReplaysInput (cluster_meaning plan) (g.I.Source.coming c.args.input.now) (g.I.Source.coming c.replay_plan.new.input) (g.O.Sink.taken c.args.out.now) (g.O.Sink.taken c.replay_plan.new.out) c.replay_plan.result)
+    subst (λ plan. ReplaysInput (cluster_meaning plan) (g.I.Source.coming c.args.input.now) (g.I.Source.coming c.replay_plan.new.input) (g.O.Sink.taken c.args.out.now) (g.O.Sink.taken c.replay_plan.new.out) c.args.steps.now c.replay_plan.new.steps c.replay_plan.result)
     c.in-Ok.ensures c.replay_plan.ensures.replay
 
 pub returns-in-Err-clause-replay : goal.returns-in-Err-clause-replay
-returns-in-Err-clause-replay g c = leaves_to_come default_meaning (g.I.Source.coming c.args.input.now) (g.O.Sink.taken c.args.out.now)
+returns-in-Err-clause-replay g c = leaves_to_come default_meaning (g.I.Source.coming c.args.input.now) (g.O.Sink.taken c.args.out.now) c.args.steps.now c.args.steps.now

@@ -1,8 +1,15 @@
 use Rattle.any_filter.specs.Chains.{cluster_chain}
 use Rattle.proxy_main.specs.DefaultPlan.{cluster_meaning}
 use Rattle.proxy_main.proofs.LawfulPlans.{chain_lawful}
-use Rattle.proxy_main.proofs.OwnReplies.{replay_responses, replay_sends}
+use Rattle.proxy_main.proofs.Plans.{default_valid}
+use Rattle.proxy_main.proofs.OwnReplies.{handed_bytes, replay_responses, replay_sends}
 use Rattle.proxy_main.proofs.laws.replay_laws.Goals as goal
+
+pub returns-clause-default_valid : goal.returns-clause-default_valid
+returns-clause-default_valid c = default_valid
+
+pub returns-clause-frames_are_bytes : goal.returns-clause-frames_are_bytes
+returns-clause-frames_are_bytes c = handed_bytes
 
 pub returns-clause-own_responses : goal.returns-clause-own_responses
 returns-clause-own_responses c plan valid = replay_responses plan (chain_lawful plan (c.addresses_law.ensures.lawful plan valid))

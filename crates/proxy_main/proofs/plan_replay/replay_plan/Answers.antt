@@ -25,4 +25,4 @@ returns-in-Ok-clause-replay g c =
     }
 
 pub returns-in-Err-clause-replay : goal.returns-in-Err-clause-replay
-returns-in-Err-clause-replay g c = leaves_to_come (cluster_meaning c.args.plan.now) (g.I.Source.coming c.args.input.now) (g.O.Sink.taken c.args.out.now)
+returns-in-Err-clause-replay g c = leaves_to_come (cluster_meaning c.args.plan.now) (g.I.Source.coming c.args.input.now) (g.O.Sink.taken c.args.out.now) c.args.steps.now c.args.steps.now

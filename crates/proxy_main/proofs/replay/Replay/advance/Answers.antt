@@ -23,4 +23,4 @@ returns-in-Ok-clause-ok g c =
 
 pub returns-in_ok-keep-in-None-clause-ok : goal.returns-in_ok-keep-in-None-clause-ok
 returns-in_ok-keep-in-None-clause-ok g c =
-    subst (λ xs. Advances g.C.Connection.meaning g.C.Connection.stands c.args.self.now xs (record c.args.self.now { partial = c.keep.new.partial })) (sym (take_whole c.args.bytes.now)) (goes_on g.C.Connection.meaning g.C.Connection.stands c.args.self.now (record c.args.self.now { partial = c.keep.new.partial }) c.args.bytes.now c.keep.new.partial.items (record { station = refl; answers = refl; lines = refl }) refl c.in_ok-keep-in-None.ensures.ok (no_break c.args.bytes.now c.in-None.ensures))
+    subst (λ xs. Advances g.C.Connection.meaning g.C.Connection.stands c.args.self.now xs (record c.args.self.now { partial = c.keep.new.partial })) (sym (take_whole c.args.bytes.now)) (goes_on g.C.Connection.meaning g.C.Connection.stands c.args.self.now (record c.args.self.now { partial = c.keep.new.partial }) c.args.bytes.now c.keep.new.partial.items (record { station = refl; answers = refl; lines = refl; steps = refl }) refl c.in_ok-keep-in-None.ensures.ok (no_break c.args.bytes.now c.in-None.ensures))

@@ -7,8 +7,8 @@ use Rattle.conn_rules.specs.Meaning.{Meaning}
 use Rattle.conn_rules.specs.State.{State}
 
 -- the script is coming, and the counts of faults stayed
-pub record Reads {C : Type 0} (meaning : C → Meaning) (stands : C → State → Type 0) (old new : Replay C) (coming left before after : Option (List ℕ)) (allowed first last start end : ℕ) : Type 0 where
-  pub reads : (M : Meaning) (script : List ℕ) → coming ≡ Some script → HasWritten meaning stands M old before before [] → Coming meaning stands M new script left before after allowed
+pub record Reads {C L : Type 0} (meaning : C → Meaning) (stands : C → State → Type 0) (old new : Replay C L) (coming left before after : Option (List ℕ)) (allowed first last start end : ℕ) : Type 0 where
+  pub reads : (M : Meaning) (begun : ℕ) (script : List ℕ) → coming ≡ Some script → HasWritten meaning stands M begun old before before [] → Coming meaning stands M begun new script left before after allowed
   pub so_far : (script : List ℕ) → coming ≡ Some script → Consumed script left allowed
   pub input : last ≡ first
   pub output : end ≡ start

@@ -38,7 +38,7 @@ returns-in-Err-flush_many-clause-err g c =
     (stops_writing g.C.Connection.meaning g.C.Connection.stands c.args.self.now c.loop-rest.self c.advance.new.self c.flush_many.new.self _ _ _ inv.front (take n rest) (drop n rest) inv.takes c.in-Ok.ensures.ok c.in-Err-flush_many.ensures.err)
 
 pub returns-clause-ok : goal.returns-clause-ok
-returns-clause-ok g c M first read r =
+returns-clause-ok g c M begun first read r =
     let inv = c.loop-rest.invariant in
     let none : c.loop-rest.rest.now ≡ [] = nil_from_length _ (eqb-true _ _ (sym c.is_empty.ensures ∙ c.loop-rest-test.false)) in
-    subst (λ xs. HasWritten g.C.Connection.meaning g.C.Connection.stands M c.loop-rest.self first (g.O.Sink.taken c.loop-rest.out) (read ++ xs)) (sym (append_nil inv.front) ∙ ap (λ xs. inv.front ++ xs) (sym none) ∙ sym inv.parts) (inv.takes M first read r)
+    subst (λ xs. HasWritten g.C.Connection.meaning g.C.Connection.stands M begun c.loop-rest.self first (g.O.Sink.taken c.loop-rest.out) (read ++ xs)) (sym (append_nil inv.front) ∙ ap (λ xs. inv.front ++ xs) (sym none) ∙ sym inv.parts) (inv.takes M begun first read r)

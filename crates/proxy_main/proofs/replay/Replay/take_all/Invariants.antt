@@ -6,7 +6,7 @@ use Rattle.conn_rules.specs.Meaning.{Meaning}
 use Rattle.conn_rules.specs.State.{State}
 
 -- a front of the bytes was taken, and no write failed
-pub record Taking {C : Type 0} (meaning : C → Meaning) (stands : C → State → Type 0) (old new : Replay C) (before after : Option (List ℕ)) (bytes rest : List ℕ) (first last : ℕ) : Type 0 where
+pub record Taking {C L : Type 0} (meaning : C → Meaning) (stands : C → State → Type 0) (old new : Replay C L) (before after : Option (List ℕ)) (bytes rest : List ℕ) (first last : ℕ) : Type 0 where
   pub front : List ℕ
   pub parts : bytes ≡ front ++ rest
   pub takes : TakesAll meaning stands old before front new after
