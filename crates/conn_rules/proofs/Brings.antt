@@ -10,21 +10,7 @@ leads_then M s t u [] ks run more = subst (λ x. LeadsTo M x ks u) run more
 leads_then M s t u (h ∷ hs) ks run more = (run.0, run.1, leads_then M run.0 t u hs ks run.2 more)
 
 module _ {C : Type 0} (meaning : C → Meaning) (stands : C → State → Type 0) where
-  -- no call
-  pub brings_none : (x : C) → Brings meaning stands x [] x
-  brings_none x = (refl, λ s is. (s, refl, is))
-
   -- one call
   pub brings_one : (old new : C) (h : Entry) → Follows meaning stands old h.event h.reply new → Brings meaning stands old (h ∷ []) new
   brings_one old new h follows =
       (follows.0, λ s is. let f = follows.1 s is in (f.0, (f.0, f.1, refl), f.2))
-
-  -- some calls, and then others
-  pub brings_then : (old between new : C) (hs ks : List Entry) → Brings meaning stands old hs between → Brings meaning stands between ks new → Brings meaning stands old (hs ++ ks) new
-  brings_then old between new hs ks first then_ = (
-    then_.0 ∙ first.0,
-    λ s is.
-        let f = first.1 s is in
-        let g = then_.1 f.0 f.2 in
-        (g.0, leads_then (meaning old) s f.0 g.0 hs ks f.1 (subst (λ M. LeadsTo M f.0 ks g.0) first.0 g.1), g.2),
-  )

@@ -6,9 +6,6 @@ pub append_nil : {A : Type 0} (xs : List A) → xs ++ [] ≡ xs
 append_nil [] = refl
 append_nil (x ∷ xs) = ap (λ ys. x ∷ ys) (append_nil xs)
 
-pub on_ok : {T E : Type 0} (r : Result T E) (y : T) (P : Type 0) → r ≡ Ok y → OnOk r P → P
-on_ok r y P e h = subst (λ x. OnOk x P) e h
-
 pub on_ok_map : {T E : Type 0} (r : Result T E) (P Q : Type 0) → (P → Q) → OnOk r P → OnOk r Q
 on_ok_map (Ok x) P Q f p = f p
 on_ok_map (Err e) P Q f p = tt

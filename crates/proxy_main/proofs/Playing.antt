@@ -24,7 +24,8 @@ use Rattle.session.specs.Peers.{least_size, most_size, frames_of_peer}
 use Rattle.framing.specs.Cuts.{Cuts}
 use Rattle.session.specs.Streams.{Stream, other_peer, IsStreamOf}
 use Rattle.session.specs.Pushes.{entry_of}
-use Rattle.session.specs.Counting.{wants_memory, FoundMemory}
+use Rattle.conn_rules.specs.Origins.{wants_memory}
+use Rattle.session.specs.Counting.{FoundMemory}
 use Rattle.session.proofs.Counting.{found_append, piece_found, push_found, end_idle}
 use Rattle.session.proofs.Frames.{frames_append}
 use Rattle.session.proofs.Streaming.{stream_fresh, stream_piece, stream_push, stream_end, stream_elsewhere, stream_cut, other_piece, other_push, other_end, piece_peer, push_peer, end_peer}

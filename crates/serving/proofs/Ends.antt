@@ -21,21 +21,12 @@ use Rattle.serving.proofs.Same.{behind_cut}
 use Rattle.serving.proofs.Notes.{steps, stands_causes, stands_halted, stands_dead, stands_cut}
 use Rattle.serving.proofs.Holds.{hold_there, not_passed}
 
-is_none : (o : Option End) → o ≡ None → is_some o ≡ false
-is_none None h = refl
-is_none (Some x) h = cc
-
 module _ {R : Type 0} (M : Meaning) (runs : R → List ℕ → List Outside → Type 0) (f : Flight R) (s : State) (h : Stands M runs f s) where
   abbrev Answered : Event → Flight R → Type 0
   Answered e new = (t : State) × StepOrNoMemory M s e reply.Noted t × Stands M runs new t
 
   -- after Over nothing changes
   module _ (e : Event) (t : State) (is : answer_to M s e ≡ noted s t) where
-    pub noted_over : is_some f.causes.over ≡ true → Answered e f
-    noted_over over =
-        let o : is_some s.causes.over ≡ true = ap (λ x. is_some x) (sym h.over_is) ∙ over in
-        (s, steps M s s e reply.Noted (is ∙ ap (λ b. (reply.Noted, if b then s else t)) o) h.rest, h)
-
     pub noted_now : (new : Flight R) → is_some f.causes.over ≡ false → Stands M runs new t → Answered e new
     noted_now new over stands =
         let o : is_some s.causes.over ≡ false = ap (λ x. is_some x) (sym h.over_is) ∙ over in

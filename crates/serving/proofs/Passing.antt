@@ -60,11 +60,6 @@ low_by : (cut : Option (ℕ × End)) (passed : ℕ) → IsCutBehind cut passed �
 low_by None passed h none = refl
 low_by (Some cut) passed h none = lt-ltb passed cut.0 (let ne : cut.0 ≡ passed → ⊥ = eqb-false cut.0 passed (no_cause (cut.0 == passed) cut.1 none) in omega (arith, h, ne))
 
-first_there : {X : Type 0} → (xs : List X) (n : ℕ) → n < length xs → (x : X) × (slice_get xs n ≡ Some x)
-first_there [] n h = absurd (omega arith)
-first_there (x ∷ xs) zero h = (x, refl)
-first_there (x ∷ xs) (suc n) h = first_there xs n (omega arith)
-
 none_there : {X : Type 0} → (xs : List X) → slice_get xs 0 ≡ None → length xs ≤ 0
 none_there [] h = omega arith
 none_there (x ∷ xs) h = cc
@@ -233,9 +228,6 @@ module _ {R : Type 0} (M : Meaning) (runs : R → List ℕ → List Outside → 
   module _ (f : Flight R) (s : State) (h : Stands M runs f s) where
     abbrev pub Emits : Rattle.conn_rules.specs.declared.event.Emit.Emit → Flight R → Type 0
     Emits e new = (t : State) × StepOrNoMemory M s event.Emit (reply.Emit e) t × Stands M runs new t
-
-    pub emit_over : (why : End) → f.causes.over ≡ Some why → Emits (emit.Over why) f
-    emit_over why over = (s, steps M s s event.Emit (reply.Emit (emit.Over why)) (ap (λ o. told_again o s (over_or s.causes.halt s (emit_next M (silent_passed M s)))) (sym h.over_is ∙ over)) h.rest, h)
 
     module _ (going : f.causes.over ≡ None) where
       not_told : answer_to M s event.Emit ≡ over_or s.causes.halt s (emit_next M (silent_passed M s))

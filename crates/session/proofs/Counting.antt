@@ -30,7 +30,8 @@ use Rattle.session.specs.Peers.{client_receipt, broker_receipt, frame_receipt}
 use Rattle.session.specs.Streams.{Stream, with_piece, with_rest, bad_size_events, end_events}
 use Rattle.session.specs.Pushes.{noted_entry, is_handed_on, IsHandedOn, Stops, IsPush}
 use Rattle.session.specs.Calls.{IsClosed, TakesPiece, IsPiece, EndsLater, EndsAtOnce, Ends, IsEnd}
-use Rattle.session.specs.Counting.{wants_memory, FoundMemory, CountsGrowth, BringsCounted}
+use Rattle.conn_rules.specs.Origins.{wants_memory}
+use Rattle.session.specs.Counting.{FoundMemory, CountsGrowth, BringsCounted}
 
 -- ---- an event at which memory was found is a step
 

@@ -16,10 +16,6 @@ pub from_open : (b : Bool) (P Q : Type 0) → b ≡ false → Q → MatchBool b 
 from_open true P Q e q = cc
 from_open false P Q e q = q
 
-pub of_false : (b : Bool) (P Q : Type 0) → b ≡ false → MatchBool b P Q → Q
-of_false true P Q e m = cc
-of_false false P Q e m = m
-
 pub is_some_of : {A : Type 0} (o : Option A) (x : A) → o ≡ Some x → IsSome o
 is_some_of None x e = cc
 is_some_of (Some y) x e = refl

@@ -1,38 +1,11 @@
 -- The steps that the calls of a station count.
-use Rattle.std.specs.Prelude.{◌≡◌, ℕ, Bool, true, false, List, Err}
+use Rattle.std.specs.Prelude.{◌≡◌, ℕ, false, List}
 use Rattle.std.specs.List.{list_any}
-use Rattle.conn_rules.specs.declared.event.Reply.{Reply}
-use Rattle.conn_rules.specs.declared.event.Reply.TheVariants as reply
-use Rattle.conn_rules.specs.declared.event.TakeFault.{TakeFault}
-use Rattle.conn_rules.specs.declared.event.TakeFault.TheVariants as take_fault
-use Rattle.conn_rules.specs.declared.event.AnswerFault.{AnswerFault}
-use Rattle.conn_rules.specs.declared.event.AnswerFault.TheVariants as answer_fault
-use Rattle.conn_rules.specs.declared.event.CompleteFault.{CompleteFault}
-use Rattle.conn_rules.specs.declared.event.CompleteFault.TheVariants as complete_fault
 use Rattle.conn_rules.specs.Meaning.{Meaning}
 use Rattle.conn_rules.specs.State.{State}
 use Rattle.conn_rules.specs.History.{Entry, LeadsTo, IsHistory}
 use Rattle.conn_rules.specs.Work.{TakesGrowth}
-
--- whether the connection answered that memory was wanting
-abbrev pub take_wants : TakeFault → Bool
-take_wants (take_fault.Ending frame) = false
-take_wants (take_fault.Full count held frame) = false
-take_wants take_fault.NoMemory = true
-
-abbrev pub answer_wants : AnswerFault → Bool
-answer_wants (answer_fault.Dead frame) = false
-answer_wants answer_fault.NoMemory = true
-
-abbrev pub complete_wants : CompleteFault → Bool
-complete_wants (complete_fault.NotWaiting verdict) = false
-complete_wants complete_fault.NoMemory = true
-
-abbrev pub wants_memory : Reply → Bool
-wants_memory (reply.Take (Err e)) = take_wants e
-wants_memory (reply.Answer (Err e)) = answer_wants e
-wants_memory (reply.Complete (Err e)) = complete_wants e
-wants_memory _ = false
+use Rattle.conn_rules.specs.Origins.{wants_memory}
 
 -- the connection found memory at each of these entries
 abbrev pub FoundMemory : List Entry → Type 0
