@@ -54,6 +54,16 @@ fn the_longest_configuration(rt: HostRuntime) -> Result<(), Fail> {
 }
 
 // The bootstrap port of the plan that is found, or the line.
+fn found(alloc: Global, name: &str, file: &str) -> Result<(u16, String), Fail> {
+    let bytes = match cluster_answer(alloc, name.as_bytes(), file.as_bytes()) {
+        Ok(ClusterAnswer::Found(plan)) => return Ok((plan.port, String::new(alloc))),
+        Ok(ClusterAnswer::Refused(bytes)) => bytes,
+        Err(_) => return Err("memory".into()),
+    };
+    let text = std::str::from_utf8(bytes.as_slice()).ok().ok_or("text")?;
+    Ok((0, String::from_str(alloc, text)?))
+}
+
 #[test]
 fn clusters_by_their_names(rt: HostRuntime) -> Result<(), Fail> {
     let alloc = rt.alloc();
@@ -64,13 +74,8 @@ fn clusters_by_their_names(rt: HostRuntime) -> Result<(), Fail> {
         ("alph", 9, ""),
         ("alpha", 0, "refused no-cluster\n"),
     ] {
-        match cluster_answer(alloc, name.as_bytes(), file.as_bytes()) {
-            Ok(ClusterAnswer::Found(plan)) => assert_eq!(rt; (name, plan.port), (name, port)),
-            Ok(ClusterAnswer::Refused(text)) => {
-                assert_eq!(rt; (name, text.as_slice()), (name, line.as_bytes()));
-            }
-            Err(_) => return Err("memory".into()),
-        }
+        let (found, text) = found(alloc, name, file.as_str())?;
+        assert_eq!(rt; (name, found, text.as_str()), (name, port, line));
     }
     Ok(())
 }
